@@ -75,16 +75,20 @@ def values(program):
          "1 to 1024, as in --from-one-address 8"),
         ([*begun, "--stop-within", "1234567"], "--stop-within", seconds),
         ([*begun, "--answer-within", "1.5"], "--answer-within", seconds),
+        ([*begun, "--gateway-within", "-1"], "--gateway-within",
+         "1 to 6 digits of seconds, 0 for not at all, as in 60"),
         (["tell", "--within", "-", "c"], "--within", seconds),
         (["ask", "--port", "1", "--within", "-"], "--within", seconds),
         (["ask", "--port", "1", "--repeat", "0"], "--repeat", "1 to 1000000, as in --repeat 1000"),
-        (["explain", "--db", "b", "--events", "e"], "--events", "a file for a new book, without --db"),
+        (["explain", "--db", "b", "--events", "e"], "--events",
+         "a file for a new book, without --db"),
         (["show", "--whole"], "--whole", "beside --json alone"),
         ([*begun, "--log-bytes", "1G"], "--log-bytes",
          "1 to 15 digits, 0 for no bound, as in --log-bytes 1073741824"),
         ([*begun, "--log", "b"], "--log", "a path that no other option names"),
         ([*begun, "--control", "b"], "--control", "a path that no other option names"),
         ([*begun, "--issuers", "b"], "--issuers", "a path that no other option names"),
+        ([*begun, "--gateway", "b"], "--gateway", "a path that no other option names"),
     ):
         explained([program, *words], f"bad value {option}", f"{option}: {cause}")
 
@@ -155,9 +159,10 @@ def ports(program):
         explained([*together, "--log", folder], "53 Read", f"{folder}: it is a folder")
         os.symlink(book.path, f"{folder}/link")
         explained([*together, "--log", f"{folder}/link"], "53 Read",
-                  "two of --db, --log, --control and --issuers are one file")
-        explained([*together, "--control", book.file("plain", "")], "53 Read",
-                  f"{folder}/plain: something else than a socket stands there")
+                  "two of --db, --log, --control, --gateway and --issuers are one file")
+        for option in ("--control", "--gateway"):
+            explained([*together, option, book.file("plain", "")], "53 Read",
+                      f"{folder}/plain: something else than a socket stands there")
         long = f"{folder}/{'c' * 108}"
         explained([*together, "--control", long], "53 Read",
                   f"{long}: its folder isn't this user's, or PATH.new is there, "

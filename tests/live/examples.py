@@ -88,7 +88,7 @@ def as_the_document_says(program, names):
         wanted(f"what the block at line {line} prints", got, want)
 
 
-NAMES = ["README.md", "examples/README.md", "docs/FIRST-SALE.md", "docs/BOOKKEEPING.md"]
+NAMES = ["README.md", "examples/README.md", "docs/FIRST-SALE.md", "docs/BOOKKEEPING.md", "docs/ISSUERS.md"]
 TRIES = [(as_the_document_says, [name]) for name in NAMES]
 
 if __name__ == "__main__":

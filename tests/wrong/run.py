@@ -28,6 +28,11 @@ SCRIPTS = [
         ("lost 2", "a reply to another"),
         ("text clearing", "the clearing file"),
     ]),
+    ("gateway crossed_answers an_approval", [
+        ("reply 2", "the message behind it"),
+        ("lost 1", "an echo meanwhile"),
+        ("text clearing", "the clearing file"),
+    ]),
     ("ask sales", [
         ("reply 3", "what is shown of sales"),
         ("lost 1", "what is shown of sales"),

@@ -1,6 +1,6 @@
 -- What each look-up and each walk gives: a filter of the tables' lists.
 use Rattle.std.specs.Prelude.{ℕ, ◌==◌, nat_lt, Bool, true, false, ◌&&◌, List, filter, find}
-use Rattle.std.specs.Prelude.{Option, Some, None, option_map, length}
+use Rattle.std.specs.Prelude.{Option, Some, None, option_map, length, drop}
 use Rattle.std.specs.List.{list_any}
 use Rattle.std.specs.Str.{bytes_eq}
 use Rattle.std.specs.Ordering.{nat_cmp, ordering_then, is_lt}
@@ -136,3 +136,7 @@ waiting_at t = filter (λ row. is_pending row.status) t.requests
 -- how many these are
 abbrev pub waiting_count_at : Tables → ℕ
 waiting_count_at t = length (waiting_at t)
+
+-- the requests behind so many rows, in the order in which they came
+abbrev pub requests_behind_at : Tables → ℕ → List Request
+requests_behind_at t rows = drop rows t.requests

@@ -10,7 +10,7 @@ ghost use Rattle.acq_book.specs.Lookups.{request_at, referred_at, admitted_at, u
 ghost use Rattle.acq_book.specs.Lookups.{pending_at, used_on_at, waiting_count_at};
 ghost use Rattle.acq_book.specs.Lookups.{last_reconciliation_at};
 ghost use Rattle.acq_book.specs.Lookups.{postings_at, postings_above_at, postings_behind_at};
-ghost use Rattle.acq_book.specs.Lookups.{merchants_at, holds_at, waiting_at};
+ghost use Rattle.acq_book.specs.Lookups.{merchants_at, holds_at, waiting_at, requests_behind_at};
 ghost use Rattle.acq_book.specs.Looked.{IsLooked};
 ghost use Rattle.acq_book.specs.Groups.{BeginsBy, GivesWithinBy, IsLive, KeepsBy, MakesWithinBy};
 ghost use Rattle.acq_book.specs.Groups.{ReturnsBy};
@@ -174,6 +174,16 @@ pub trait Book {
         ensures { WalksBy tables is_honest is_open may_leave leaves_books failures store_faults
             has_room self.old self.new result
             V.sees (waiting_at (tables self.old)) visitor.old visitor.new };
+
+    /// Hands over the requests behind so many rows, in the order in which they came.
+    fn walk_requests_behind<V: Visit<Request>>(
+        &mut self,
+        rows: u64,
+        visitor: &mut V,
+    ) -> Result<(), BookFault>
+        ensures { WalksBy tables is_honest is_open may_leave leaves_books failures store_faults
+            has_room self.old self.new result
+            V.sees (requests_behind_at (tables self.old) rows) visitor.old visitor.new };
 
     /// Makes all of a change, or none of it; within a group it is made with the group. The change
     /// fits: its keys are new, and there is room for it; and it leads to tables that events lead

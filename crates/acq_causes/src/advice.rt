@@ -1,7 +1,7 @@
 //! What may be said of a fault without a look at the machine.
 
 /// What an option's value has to be.
-const VALUES: [(&str, &str); 22] = [
+const VALUES: [(&str, &str); 23] = [
     ("--db", "a path"),
     ("--limit", "1 to 999999, as in --limit 999999"),
     ("--day", DAY),
@@ -28,6 +28,10 @@ const VALUES: [(&str, &str); 22] = [
     ("--frame-within", SECONDS),
     ("--stop-within", SECONDS),
     ("--answer-within", SECONDS),
+    (
+        "--gateway-within",
+        "1 to 6 digits of seconds, 0 for not at all, as in 60",
+    ),
     ("--within", SECONDS),
     ("--repeat", "1 to 1000000, as in --repeat 1000"),
     ("--events", "a file for a new book, without --db"),
@@ -63,6 +67,7 @@ pub(crate) fn of_connection(number: u64) -> Option<&'static str> {
         53 => "a connection couldn't be read, or was silent, or took for a frame, too long",
         54 => "a connection took nothing of a reply for too long, or left before it came",
         56 => "a connection has no header in front: the proxy has to send it, as `send-proxy-v2`",
+        65 => "a gateway knows of rows that this book lacks: is it an old copy?",
         _ => return None,
     })
 }

@@ -83,7 +83,7 @@ impl<'a, W: Write> Explained<'a, W> {
 
 /// Whether a fault is one of a connection that a host serves, which goes on.
 pub(crate) fn is_of_connection(number: u64, signs: &Signs) -> bool {
-    signs.serves.get() && matches!(number, 50..=54)
+    signs.serves.get() && matches!(number, 50..=54 | 56 | 65)
 }
 
 fn ended(rt: &HostRuntime, number: u64, name: &str, cause: Cause) -> Option<Ended> {

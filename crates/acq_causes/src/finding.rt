@@ -83,6 +83,7 @@ fn cause_of_lack(rt: &HostRuntime, asked: Asked<'_>, lack: Lack) -> Cause {
         Lack::Events => asked.value("--events"),
         Lack::Log => asked.value("--log"),
         Lack::Control => asked.value("--control"),
+        Lack::Gateway => asked.value("--gateway"),
         Lack::Port(_) | Lack::TerminalsHost(_) => asked.value("--port"),
         Lack::Host(_) => asked.path(),
         Lack::SameFile => None,
@@ -91,11 +92,11 @@ fn cause_of_lack(rt: &HostRuntime, asked: Asked<'_>, lack: Lack) -> Cause {
     let words = match lack {
         Lack::Issuers | Lack::Events => why_unread(rt, path),
         Lack::Log => why_unwritten(rt, path),
-        Lack::Control => why_no_socket(rt, path),
+        Lack::Control | Lack::Gateway => why_no_socket(rt, path),
         Lack::Port(kind) => why_no_port(kind),
         Lack::Host(kind) => why_no_host(kind),
         Lack::TerminalsHost(kind) => why_no_terminals_host(kind),
-        Lack::SameFile => "two of --db, --log, --control and --issuers are one file",
+        Lack::SameFile => "two of --db, --log, --control, --gateway and --issuers are one file",
     };
     Cause::of_value(rt.alloc(), about, words)
 }

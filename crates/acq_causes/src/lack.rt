@@ -15,6 +15,8 @@ pub enum Lack {
     Log,
     /// The socket at which control connections come.
     Control,
+    /// The socket at which a gateway to issuers comes.
+    Gateway,
     /// The address and the port at which terminals connect, for this reason.
     Port(ErrorKind),
     /// A host that takes control connections, for this reason.

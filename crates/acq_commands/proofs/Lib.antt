@@ -1,3 +1,4 @@
+mod Answering
 pub mod EventsTaken
 pub mod Explanations
 pub mod ConnectionsServed

@@ -1,5 +1,7 @@
+pub mod Answering
 pub mod ClockMoments
 pub mod DayReports
+pub mod Ending
 pub mod Groups
 pub mod Listening
 pub mod Once

@@ -7,6 +7,7 @@
 mod book_commands;
 mod book_report;
 mod day_reports;
+mod ending_waiting;
 mod explain_options;
 mod explaining;
 mod group_size;
@@ -36,6 +37,7 @@ mod widest_opening;
 pub use book_commands::{holds_of, replay_on, report_on};
 pub use book_report::BookReport;
 pub use day_reports::write_reports;
+pub use ending_waiting::end_waiting_on;
 pub use explain_options::ExplainOptions;
 pub use explaining::{explain_in_memory, explain_on};
 pub use group_size::GroupSize;

@@ -52,6 +52,7 @@ answer_stopped items it held came (fault.StillPending n) is why = absurd why
 answer_stopped items it held came (fault.BadLine n) is why = absurd why
 answer_stopped items it held came (fault.OtherDay day) is why = absurd why
 answer_stopped items it held came (fault.BadMessage line cause) is why = absurd why
+answer_stopped items it held came (fault.RowsMissing n) is why = absurd why
 
 -- the answer came, and was written, or not whole
 module _ (items it held came after : List ℕ) (answer : Answer) (kind : AnswerKind)
@@ -99,3 +100,4 @@ module _ (items it held came after : List ℕ) (answer : Answer) (kind : AnswerK
   turn_taken (Err fault.NoProxyHeader) w = absurd w
   turn_taken (Err (fault.OtherDay day)) w = absurd w
   turn_taken (Err (fault.BadMessage line cause)) w = absurd w
+  turn_taken (Err (fault.RowsMissing n)) w = absurd w

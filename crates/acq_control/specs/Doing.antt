@@ -24,8 +24,8 @@ abbrev pub TakesIf : {S : Type 0} → Ghosts S → S → S → Event → Bool �
 TakesIf book old new event true done = Takes book old new event done
 TakesIf book old new event false done = Looks book old new done
 
--- The business day is ended, or the tables are looked at; of an honest book that is open it is ended
--- if it is this one, and only then.
+-- The business day is ended, or the tables are looked at; of an honest book that is open it is
+-- ended if it is this one, and only then.
 abbrev pub Ends : {S : Type 0} → Ghosts S → S → S → (day moment : ℕ) → Bool → Type 0
 Ends book old new day moment done =
     (ends : Bool) × TakesIf book old new (event.Cutover moment) ends done ×

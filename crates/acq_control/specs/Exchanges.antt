@@ -123,8 +123,8 @@ module _ (may_give : ℕ → Type 0) (serving : Serving) (old : Tables) (left : 
     pub follows : (k : ℕ) (t : Tables) (acts : List Act) → old ≡ behind_acts t acts →
         FollowsLog k t acts before → FollowsLog k t acts after
 
-  -- A line was taken, at a moment that may be given, and what it asks was done, which has this wish;
-  -- and behind any acts the connection goes on to follow them and this one.
+  -- A line was taken, at a moment that may be given, and what it asks was done, which has this
+  -- wish; and behind any acts the connection goes on to follow them and this one.
   pub record AsksOne (wish : Wish) (before after : Passed) : Type 0 where
     pub asked : Option Question
     pub moment : ℕ

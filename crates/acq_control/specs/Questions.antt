@@ -1,6 +1,6 @@
 -- What a line of a control connection asks (own profile): an event, as an event line spells it; a
--- text; that the business day ends; that the log is opened anew; or that the host ends. The word `now`
--- stands for the moment at which the line is taken.
+-- text; that the business day ends; that the log is opened anew; or that the host ends. The word
+-- `now` stands for the moment at which the line is taken.
 use Rattle.std.specs.Prelude.{◌≡◌, ◌≢◌, ◌==◌, ◌&&◌, ◌+◌, ◌-◌, ◌<◌, ◌≤◌, ℕ, nat_eq, Bool}
 use Rattle.std.specs.Prelude.{List, [], ◌∷◌, ◌++◌, codes, drop, take, length, option_map, Option}
 use Rattle.std.specs.Prelude.{Some, None, Ok, if◌then◌else◌}

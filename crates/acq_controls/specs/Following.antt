@@ -41,8 +41,8 @@ AreActsOf t (Untold events ∷ steps) acts =
     × AreActsOf (tables_after t events) steps rest
 
 -- What came by a control connection are the lines that it asked by, and behind them some rest; and
--- what went out, with what was still to be written and what was still to be made, is what is said to
--- them.
+-- what went out, with what was still to be written and what was still to be made, is what is said
+-- to them.
 pub record HasAnswers (t : Tables) (acts : List Act) (c : Connection) : Type 0 where
   pub rest : List ℕ
   pub unmade : List ℕ
@@ -62,8 +62,8 @@ IsHere k [] = ⊥
 IsHere k (None ∷ places) = IsHere k places
 IsHere k (Some o ∷ places) = (o.number ≡ k) ⊎ IsHere k places
 
--- no number stands twice, those from count on are free, and each below it is of one that ended or is
--- open: none is left out
+-- no number stands twice, those from count on are free, and each below it is of one that ended or
+-- is open: none is left out
 pub record AreNumbered (a : Aside) : Type 0 where
   pub ended_below : AllByRecursion (λ c. c.number < a.count) a.ended
   pub below : AllByRecursion (λ p. IfSome p (λ o. o.number < a.count)) a.here

@@ -84,8 +84,8 @@ impl<S: Read + Write + Drop> Controls<S> {
         true
     }
 
-    /// A round of the connection in a place, if one is there, while so much is served. It leaves its
-    /// place where it ended.
+    /// A round of the connection in a place, if one is there, while so much is served. It leaves
+    /// its place where it ended.
     pub fn round<B: Book + Drop, C: Clock>(
         &mut self,
         place: usize,

@@ -21,6 +21,7 @@ use Rattle.acq_faults.specs.declared.fault.Fault.TheVariants.{Ended, Undecodable
 use Rattle.acq_faults.specs.declared.fault.Fault.TheVariants.{Silent, NoProxyHeader}
 use Rattle.acq_faults.specs.declared.fault.Fault.TheVariants.{DayNotOver, StillPending}
 use Rattle.acq_faults.specs.declared.fault.Fault.TheVariants.{BadLine, OtherDay, BadMessage}
+use Rattle.acq_faults.specs.declared.fault.Fault.TheVariants.{RowsMissing}
 
 -- a fault's number and name
 abbrev pub heading_of : Fault → List ℕ
@@ -42,6 +43,7 @@ heading_of (StillPending n) = codes "61 StillPending"
 heading_of (BadLine n) = codes "62 BadLine"
 heading_of (OtherDay day) = codes "63 OtherDay"
 heading_of (BadMessage line fault) = codes "64 BadMessage"
+heading_of (RowsMissing n) = codes "65 RowsMissing"
 
 -- its values, each behind a space
 abbrev pub values_of : Fault → List ℕ
@@ -56,6 +58,7 @@ values_of (OtherDay day) = codes " " ++ date_text_of day
 values_of (BadMessage line fault) =
     codes " " ++ decimal line ++ codes " " ++ decimal (number_of_set_fault fault) ++ codes " "
     ++ decimal (element_of_set_fault fault)
+values_of (RowsMissing n) = codes " " ++ decimal n
 values_of other = []
 
 -- the fault as printed lines have it
@@ -86,6 +89,7 @@ status_of (StillPending n) = 1
 status_of (BadLine n) = 1
 status_of (OtherDay day) = 1
 status_of (BadMessage line fault) = 1
+status_of (RowsMissing n) = 1
 
 -- what a fault of a book is
 abbrev pub of_book : book.BookFault → Fault

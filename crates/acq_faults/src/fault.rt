@@ -60,6 +60,8 @@ pub enum Fault {
     /// 64: an element can't have the content that this line says, or no frame can have the message
     /// whose type it says; lines are counted from 1.
     BadMessage(u64, SetFault),
+    /// 65: a gateway knows of more rows than the book has, whose number this is.
+    RowsMissing(u64),
 }
 
 impl Fault {
@@ -98,6 +100,7 @@ impl Fault {
             Fault::BadLine(_) => "62 BadLine",
             Fault::OtherDay(_) => "63 OtherDay",
             Fault::BadMessage(..) => "64 BadMessage",
+            Fault::RowsMissing(_) => "65 RowsMissing",
         }
     }
 }
@@ -121,7 +124,8 @@ impl fmt::Display for Fault {
             | Fault::Write(n)
             | Fault::StillPending(n)
             | Fault::BadAnswer(n)
-            | Fault::BadLine(n) => write!(f, "{} {n}", self.heading()),
+            | Fault::BadLine(n)
+            | Fault::RowsMissing(n) => write!(f, "{} {n}", self.heading()),
             Fault::OtherDay(day) => match str::from_utf8(&day.date_text()) {
                 Ok(date) => write!(f, "{} {date}", self.heading()),
                 Err(_) => Err(fmt::Error),

@@ -41,7 +41,8 @@ fn put_values<F: Sink>(faults: &mut F, fault: &Fault) -> Result<(), Failed>
         | Fault::Write(n)
         | Fault::StillPending(n)
         | Fault::BadAnswer(n)
-        | Fault::BadLine(n) => put_value(faults, *n),
+        | Fault::BadLine(n)
+        | Fault::RowsMissing(n) => put_value(faults, *n),
         Fault::OtherDay(day) => put_date(faults, *day),
         _ => Ok(()),
     }

@@ -21,8 +21,13 @@ pub struct ListenOptions {
     pub proxy_protocol: bool,
     /// How long a connection may take.
     pub patience: Patience,
-    /// The path of the file that says what issuers answer; without one no issuer can be reached.
+    /// The path of the file that says what issuers answer; without one, and without a gateway, no
+    /// issuer can be reached.
     pub issuers: Option<String>,
+    /// The path of the socket's file at which a gateway to issuers connects; without one none does.
+    pub gateway: Option<String>,
+    /// Whether requests that wait for their issuer are ended first, without an answer.
+    pub end_waiting: bool,
     /// The moment at which all frames come; without one it is the clock's.
     pub moment: Option<Moment>,
     /// The path of the socket's file at which control connections come; without one none do.

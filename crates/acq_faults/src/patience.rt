@@ -1,7 +1,8 @@
 //! How long connections may take.
 
-/// For how many seconds a connection may be as it is; 0 is for ever. Behind that it is closed, or
-/// where its issuer doesn't answer, goes on without an answer.
+/// For how many seconds a connection may be as it is; 0 is for ever, but where no gateway is
+/// connected. Behind that it is closed, or where its issuer doesn't answer, goes on without an
+/// answer.
 #[derive(Clone, Copy, Debug, Drop)]
 pub struct Patience {
     /// For how many seconds it may send nothing, or take nothing of a reply.
@@ -12,4 +13,6 @@ pub struct Patience {
     pub stop_within: u64,
     /// For how many seconds it may wait for its issuer's answer.
     pub answer_within: u64,
+    /// For how many seconds it may wait for a gateway where none is connected; 0 is not at all.
+    pub gateway_within: u64,
 }

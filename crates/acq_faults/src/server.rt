@@ -33,8 +33,8 @@ pub trait Server {
     ghost follow: { Following aside };
 
     /// Serves so many connections over a host, many at once, in rounds: the messages that are ready
-    /// are taken in one group. A connection whose issuer answers later waits for that alone, and may
-    /// get no answer in time. A connection's fault is a line of `faults`, and the others go on;
+    /// are taken in one group. A connection whose issuer answers later waits for that alone, and
+    /// may get no answer in time. A connection's fault is a line of `faults`, and the others go on;
     /// want of memory and a fault of the store end it.
     fn serve_all<B: Book + Drop, C: Clock, I: Issuer, F: Sink>(
         &mut self,

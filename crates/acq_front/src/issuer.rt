@@ -39,6 +39,12 @@ pub trait Issuer {
         true
     }
 
+    /// Its answer to a query isn't waited for any more.
+    fn forget(&mut self, _query: &Query)
+        ensures coming { coming self.new ≡ coming self.old }
+        ensures later { (q : Query) (v : Verdict) → may_say self.new q v → may_say self.old q v }
+    {}
+
     /// How long to wait at most for the next answer to what it was asked and didn't answer yet: no
     /// time, if one may be there, and `None` if nothing of that kind is waited for.
     fn next_answer_within(&self) -> Option<Duration> {

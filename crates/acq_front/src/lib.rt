@@ -1,9 +1,9 @@
 //! The front of the host: frames of a connection in, reply frames out, issuers asked in between.
 //!
 //! [`take_message`] has the host take one message. A [`Conversation`] is one end of a connection
-//! without its reads and writes, for hosts that serve many at once: it is fed with what comes, hands
-//! out the next message, and holds what is to be written. A [`Line`] is read and written without
-//! waiting.
+//! without its reads and writes, for hosts that serve many at once: it is fed with what comes,
+//! hands out the next message, and holds what is to be written. A [`Line`] is read and written
+//! without waiting.
 #![tactic(auto)]
 
 mod clock;

@@ -55,7 +55,8 @@ pub record IsToldAt (said : List Output) (place : ℕ) (t : Tables) (m : List �
 -- After a past, further events gave these outputs and led to these tables. A merchant's records of
 -- each day's clearing file are, in another order, one for each reply that said 00 to what moves
 -- money, and no other: so one for each recorded request of that day whose reply says so, under the
--- leg of what was asked for. And each such reply of the run names its posting, which is in the file.
+-- leg of what was asked for. And each such reply of the run names its posting, which is in the
+-- file.
 pub record ClearedAsTold (opening : Opening) (past further : List Event) (said : List Output)
     (t : Tables) (m : List ℕ) : Type 0 where
   pub told : (day : ℕ) →

@@ -16,8 +16,8 @@ pub trait BookText {
     /// The text of these tables.
     ghost text: { Self → Tables → List ℕ };
 
-    /// Writes it. `Write` tells how many bytes of it went out; with `Memory` and `Store` a beginning
-    /// of it may have. No other fault comes.
+    /// Writes it. `Write` tells how many bytes of it went out; with `Memory` and `Store` a
+    /// beginning of it may have. No other fault comes.
     fn write<B: Book, K: Sink>(
         &self,
         alloc: Global,

@@ -10,6 +10,7 @@ ghost use Rattle.acq_core.specs.Pasts.{HasPast};
 ghost use Rattle.acq_host.specs.Groups.{Begins, Keeps, Returns};
 ghost use Rattle.acq_host.specs.Runs.{CountsRun, IsWellSaid, StopsAt, after_first};
 
+mod issuing;
 mod looking;
 mod reporting;
 

@@ -2,8 +2,8 @@
 //!
 //! [`json_of_message`] gives a message as a JSON object on a line: its type, and the contents of
 //! its elements by their numbers (`specs/Written.antt`). [`json_of_lines`] does so of the messages
-//! in lines as `replay` reads and writes them (`specs/Lines.antt`). [`make_of_json`] is the inverse:
-//! it makes messages of such objects, one a line (`specs/Said.antt`).
+//! in lines as `replay` reads and writes them (`specs/Lines.antt`). [`make_of_json`] is the
+//! inverse: it makes messages of such objects, one a line (`specs/Said.antt`).
 //!
 //! The members stand in the order of the elements, and one that is said twice is refused. So reader
 //! and writer are those of `json`, which keeps both; a map of its members would keep neither.

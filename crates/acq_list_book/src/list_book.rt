@@ -171,6 +171,14 @@ impl Book for ListBook {
         show(self.tables.waiting(), visitor)
     }
 
+    fn walk_requests_behind<V: Visit<Request>>(
+        &mut self,
+        rows: u64,
+        visitor: &mut V,
+    ) -> Result<(), BookFault> {
+        show(self.tables.requests_behind(rows), visitor)
+    }
+
     fn apply(&mut self, change: &Change) -> Result<(), BookFault> {
         match self.group {
             Group::NotBegun | Group::Begun => Ok(self.tables.make(change)?),

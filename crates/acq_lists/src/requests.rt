@@ -2,7 +2,8 @@
 
 ghost use Rattle.std.specs.Prelude.{◌≡◌, ◌+◌, ◌<◌, ◌≤◌, ◌++◌, ◌∷◌, ◌&&◌};
 ghost use Rattle.std.specs.Prelude.{ℕ, List, [], true, Some, None};
-ghost use Rattle.std.specs.Prelude.{◌==◌, filter, find, length, map, slice_get, if◌then◌else◌};
+ghost use Rattle.std.specs.Prelude.{◌==◌, drop, filter, find, length, map, slice_get};
+ghost use Rattle.std.specs.Prelude.{if◌then◌else◌};
 ghost use Rattle.std.specs.Prelude.{IfSome, IfOk, OnOk, MatchOption};
 ghost use Rattle.std.specs.Map.Iter.{deref};
 ghost use Rattle.std.specs.Option.{option_copied};
@@ -154,6 +155,13 @@ impl Requests {
             .values()
             .filter(|row| is_waiting(row))
             .collect(alloc)
+    }
+
+    /// The requests behind so many rows, in the order in which they came.
+    pub fn behind(&self, alloc: Global, rows: u64) -> Result<Vec<&Request>, AllocError>
+        ensures { IfOk result (λ those. map deref those.items ≡ drop rows self.now.rows) }
+    {
+        self.rows.values().skip(rows as usize).collect(alloc)
     }
 
     /// Makes room for one more, and a copy of it.

@@ -30,11 +30,11 @@ impl Watch {
         }
     }
 
-    /// Sees how often its stream said that it would wait, whether a turn is ready, whether something
-    /// is to be written, and whether the turn is its issuer's answer, before a round reads; and
-    /// returns whether the last group left it out. Since nothing is read between that group and now,
-    /// a message that is ready now was so then, unless it waited for a reply to be written. An answer
-    /// may have come in between.
+    /// Sees how often its stream said that it would wait, whether a turn is ready, whether
+    /// something is to be written, and whether the turn is its issuer's answer, before a round
+    /// reads; and returns whether the last group left it out. Since nothing is read between that
+    /// group and now, a message that is ready now was so then, unless it waited for a reply to be
+    /// written. An answer may have come in between.
     pub(crate) fn see(
         &mut self,
         waits: u64,

@@ -22,3 +22,4 @@ closing_is_opening (fault.StillPending n) h = h
 closing_is_opening (fault.BadLine n) h = h
 closing_is_opening (fault.OtherDay day) h = h
 closing_is_opening (fault.BadMessage line cause) h = h
+closing_is_opening (fault.RowsMissing n) h = h

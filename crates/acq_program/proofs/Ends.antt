@@ -25,6 +25,7 @@ within (fault.StillPending n) = omega arith
 within (fault.BadLine n) = omega arith
 within (fault.OtherDay day) = omega arith
 within (fault.BadMessage line cause) = omega arith
+within (fault.RowsMissing n) = omega arith
 
 pub status_within : (ended : Result ℕ Fault) → IfOk ended (λ status. status ≤ 1) →
     status_in ended ≤ 3

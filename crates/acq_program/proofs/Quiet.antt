@@ -31,6 +31,7 @@ not_well (fault.StillPending n) h = omega (arith, h)
 not_well (fault.BadLine n) h = omega (arith, h)
 not_well (fault.OtherDay day) h = omega (arith, h)
 not_well (fault.BadMessage line cause) h = omega (arith, h)
+not_well (fault.RowsMissing n) h = omega (arith, h)
 
 where_well : (ended : Result ℕ Fault) (P : Type 0) → OnOk ended P → status_in ended ≡ 0 → P
 where_well (Ok status) P p h = p

@@ -34,9 +34,9 @@ use Rattle.acq_faults.specs.declared.report_kind.ReportKind.TheVariants as kinds
 use Rattle.acq_program.specs.declared.usage_fault.UsageFault.{UsageFault}
 use Rattle.acq_program.specs.declared.usage_fault.UsageFault.TheVariants.{Words, BadValue}
 use Rattle.acq_program.specs.Options.{AddressIs, AnswerWithinIs, CountIs, DayIfThere, DayIs}
-use Rattle.acq_program.specs.Options.{FileIs, FrameWithinIs, FromOneAddressIs, GroupIs, IdleIs}
-use Rattle.acq_program.specs.Options.{LimitIs, LogBytesIs, MadeFormIs, MerchantIs, MomentIfThere}
-use Rattle.acq_program.specs.Options.{MomentIs, OptionTexts, PortIs, RepeatIfThere}
+use Rattle.acq_program.specs.Options.{FileIs, FrameWithinIs, FromOneAddressIs, GatewayWithinIs}
+use Rattle.acq_program.specs.Options.{GroupIs, IdleIs, LimitIs, LogBytesIs, MadeFormIs, MerchantIs}
+use Rattle.acq_program.specs.Options.{MomentIfThere, MomentIs, OptionTexts, PortIs, RepeatIfThere}
 use Rattle.acq_program.specs.Options.{ReplyWithinIs, ReportsAre, ShownFormIs, StopWithinIs}
 use Rattle.acq_program.specs.Options.{TogetherIs, WithinIs, form_of_flag, is_set, option_texts}
 use Rattle.acq_program.specs.Options.{report_on, said_by}
@@ -86,19 +86,24 @@ abbrev pub AsksOnce : OptionTexts → Result Action OptionName → Type 0
 AsksOnce texts = Then (MomentIfThere texts) (IsOnce texts.db texts.issuers)
 
 -- a connection may be idle so long, its frames may take so long, it may be there so long once the
--- host was asked to end, and it may wait so long for its issuer's answer
-abbrev pub IsPatience : ℕ → ℕ → ℕ → ℕ → Result Patience OptionName → Type 0
-IsPatience idle frame_within stop_within answer_within read =
+-- host was asked to end, and it may wait so long for its issuer's answer, and so long for a gateway
+abbrev pub IsPatience : ℕ → ℕ → ℕ → ℕ → ℕ → Result Patience OptionName → Type 0
+IsPatience idle frame_within stop_within answer_within gateway_within read =
     read ≡ Ok (record {
       idle = idle;
       frame_within = frame_within;
       stop_within = stop_within;
       answer_within = answer_within;
+      gateway_within = gateway_within;
     })
+
+abbrev pub PatienceBeside : OptionTexts → ℕ → ℕ → ℕ → ℕ → Result Patience OptionName → Type 0
+PatienceBeside texts idle frame_within stop_within answer_within =
+    Then (GatewayWithinIs texts) (IsPatience idle frame_within stop_within answer_within)
 
 abbrev pub PatienceUpTo : OptionTexts → ℕ → ℕ → ℕ → Result Patience OptionName → Type 0
 PatienceUpTo texts idle frame_within stop_within =
-    Then (AnswerWithinIs texts) (IsPatience idle frame_within stop_within)
+    Then (AnswerWithinIs texts) (PatienceBeside texts idle frame_within stop_within)
 
 abbrev pub PatienceWith : OptionTexts → ℕ → ℕ → Result Patience OptionName → Type 0
 PatienceWith texts idle frame_within =
@@ -108,7 +113,7 @@ abbrev pub PatienceFor : OptionTexts → ℕ → Result Patience OptionName → 
 PatienceFor texts idle = Then (FrameWithinIs texts) (PatienceWith texts idle)
 
 -- how long a connection may take: in silence first, then with a frame, then once the host was asked
--- to end, then for its issuer's answer
+-- to end, then for its issuer's answer, then for a gateway
 abbrev pub PatienceIs : OptionTexts → Result Patience OptionName → Type 0
 PatienceIs texts = Then (IdleIs texts) (PatienceFor texts)
 
@@ -143,14 +148,17 @@ EndpointAt texts port = Then (AddressIs texts) (IsEndpoint port)
 abbrev pub EndpointIs : OptionTexts → Result SocketAddrV4 OptionName → Type 0
 EndpointIs texts = Then (PortIs texts) (EndpointAt texts)
 
--- so many connections here over this book, with this file of issuers' answers, at this moment, with
--- so much patience for each, so many of them at once and from one address, each behind a proxy's
--- header or none, control connections at this socket, and a log of so many bytes in this file
+-- so many connections here over this book, with this file of issuers' answers, a gateway at this
+-- socket, requests that wait ended first or not, at this moment, with so much patience for each, so
+-- many of them at once and from one address, each behind a proxy's header or none, control
+-- connections at this socket, and a log of so many bytes in this file
 abbrev pub IsListened : OptionTexts → String Global → SocketAddrV4 → ℕ → Option ℕ → Patience →
     Bounds → Result ListenOptions OptionName → Type 0
 IsListened texts path endpoint count moment patience bounds (Ok asked) =
     (asked.path ≡ path) × (asked.endpoint ≡ endpoint) × (asked.count ≡ count)
-    × (option_map string_bytes asked.issuers ≡ texts.issuers) × (asked.moment ≡ moment)
+    × (option_map string_bytes asked.issuers ≡ texts.issuers)
+    × (option_map string_bytes asked.gateway ≡ texts.gateway)
+    × (asked.end_waiting ≡ is_set texts.end_waiting) × (asked.moment ≡ moment)
     × (asked.patience ≡ patience) × (asked.together ≡ bounds.together)
     × (asked.from_one_address ≡ bounds.from_one_address)
     × (asked.proxy_protocol ≡ is_set texts.proxy_protocol)

@@ -51,9 +51,11 @@ name_of_option option.Idle = codes "--idle"
 name_of_option option.FrameWithin = codes "--frame-within"
 name_of_option option.StopWithin = codes "--stop-within"
 name_of_option option.AnswerWithin = codes "--answer-within"
+name_of_option option.GatewayWithin = codes "--gateway-within"
 name_of_option option.Together = codes "--together"
 name_of_option option.FromOneAddress = codes "--from-one-address"
 name_of_option option.Issuers = codes "--issuers"
+name_of_option option.Gateway = codes "--gateway"
 name_of_option option.Control = codes "--control"
 name_of_option option.Log = codes "--log"
 name_of_option option.LogBytes = codes "--log-bytes"
@@ -80,6 +82,7 @@ pub record OptionTexts : Type 0 where
   pub json : Option Text
   pub whole : Option Text
   pub issuers : Option Text
+  pub gateway : Option Text
   pub port : Option Text
   pub address : Option Text
   pub count : Option Text
@@ -87,6 +90,8 @@ pub record OptionTexts : Type 0 where
   pub frame_within : Option Text
   pub stop_within : Option Text
   pub answer_within : Option Text
+  pub gateway_within : Option Text
+  pub end_waiting : Option Text
   pub together : Option Text
   pub from_one_address : Option Text
   pub proxy_protocol : Option Text
@@ -118,6 +123,7 @@ option_texts rows = record {
   json = first_of (codes "json") rows;
   whole = first_of (codes "whole") rows;
   issuers = first_of (codes "issuers") rows;
+  gateway = first_of (codes "gateway") rows;
   port = first_of (codes "port") rows;
   address = first_of (codes "address") rows;
   count = first_of (codes "count") rows;
@@ -125,6 +131,8 @@ option_texts rows = record {
   frame_within = first_of (codes "frame-within") rows;
   stop_within = first_of (codes "stop-within") rows;
   answer_within = first_of (codes "answer-within") rows;
+  gateway_within = first_of (codes "gateway-within") rows;
+  end_waiting = first_of (codes "end-waiting") rows;
   together = first_of (codes "together") rows;
   from_one_address = first_of (codes "from-one-address") rows;
   proxy_protocol = first_of (codes "proxy-protocol") rows;
@@ -157,6 +165,7 @@ found_texts found = record {
   json = first_value found (codes "json");
   whole = first_value found (codes "whole");
   issuers = first_value found (codes "issuers");
+  gateway = first_value found (codes "gateway");
   port = first_value found (codes "port");
   address = first_value found (codes "address");
   count = first_value found (codes "count");
@@ -164,6 +173,8 @@ found_texts found = record {
   frame_within = first_value found (codes "frame-within");
   stop_within = first_value found (codes "stop-within");
   answer_within = first_value found (codes "answer-within");
+  gateway_within = first_value found (codes "gateway-within");
+  end_waiting = first_value found (codes "end-waiting");
   together = first_value found (codes "together");
   from_one_address = first_value found (codes "from-one-address");
   proxy_protocol = first_value found (codes "proxy-protocol");
@@ -330,6 +341,10 @@ StopWithinIs texts read = read ≡ seconds_if_there 10 option.StopWithin texts.s
 -- so many seconds for an issuer's answer: without the option 30
 abbrev pub AnswerWithinIs : OptionTexts → Result ℕ OptionName → Type 0
 AnswerWithinIs texts read = read ≡ seconds_if_there 30 option.AnswerWithin texts.answer_within
+
+-- so many seconds for a gateway where none is connected: without the option none
+abbrev pub GatewayWithinIs : OptionTexts → Result ℕ OptionName → Type 0
+GatewayWithinIs texts read = read ≡ seconds_if_there 0 option.GatewayWithin texts.gateway_within
 
 -- so many seconds for an answer of a host: without the option 60
 abbrev pub WithinIs : OptionTexts → Result ℕ OptionName → Type 0

@@ -42,19 +42,20 @@ once =
     with_rule (with_rule (with_rule (new_app (codes "once"))
     (option (codes "db"))) (option (codes "issuers"))) (option (codes "at"))
 
--- `listen --db FILE --port P [--address ADDRESS] [--count N] [--issuers FILE] [--at MOMENT]
--- [--idle SECONDS] [--frame-within SECONDS] [--stop-within SECONDS] [--answer-within SECONDS]
--- [--together M] [--from-one-address N] [--proxy-protocol] [--control PATH] [--log FILE]
--- [--log-bytes N]`
+-- `listen --db FILE --port P [--address ADDRESS] [--count N] [--issuers FILE] [--gateway PATH]
+-- [--at MOMENT] [--idle SECONDS] [--frame-within SECONDS] [--stop-within SECONDS]
+-- [--answer-within SECONDS] [--gateway-within SECONDS] [--end-waiting] [--together M]
+-- [--from-one-address N] [--proxy-protocol] [--control PATH] [--log FILE] [--log-bytes N]`
 abbrev pub listen : App
 listen =
     with_rule (with_rule (with_rule (with_rule (with_rule (with_rule (with_rule (with_rule
     (with_rule (with_rule (with_rule (with_rule (with_rule (with_rule (with_rule (with_rule
-    (new_app (codes "listen"))
+    (with_rule (with_rule (with_rule (new_app (codes "listen"))
     (required (codes "db"))) (required (codes "port"))) (option (codes "address")))
-    (option (codes "count"))) (option (codes "issuers"))) (option (codes "at")))
-    (option (codes "idle"))) (option (codes "frame-within"))) (option (codes "stop-within")))
-    (option (codes "answer-within"))) (option (codes "together")))
+    (option (codes "count"))) (option (codes "issuers"))) (option (codes "gateway")))
+    (option (codes "at"))) (option (codes "idle"))) (option (codes "frame-within")))
+    (option (codes "stop-within"))) (option (codes "answer-within")))
+    (option (codes "gateway-within"))) (flag (codes "end-waiting"))) (option (codes "together")))
     (option (codes "from-one-address"))) (flag (codes "proxy-protocol")))
     (option (codes "control"))) (option (codes "log"))) (option (codes "log-bytes"))
 

@@ -10,15 +10,22 @@ use acq_faults::ListenOptions;
 const LOG_OF_BOOK: &[u8] = b"-wal";
 
 /// The first option that names the file of another one, or a file of the book, if one does: of the
-/// log, the control socket and the issuers' file.
+/// gateway's socket, the log, the control socket and the issuers' file. Where there is an issuers'
+/// file, it is the gateway's option, if there is one.
 pub(crate) fn clash_in(asked: &ListenOptions) -> Option<OptionName>
     ensures { result ≡ clash_of asked.now }
 {
+    if asked.issuers.is_some() && asked.gateway.is_some() {
+        return Some(OptionName::Gateway);
+    }
     let book = asked.path.as_str();
     let log = text_of(&asked.log);
     let control = text_of(&asked.control);
     let issuers = text_of(&asked.issuers);
-    if is_of_book(book, log) || are_alike(log, control) || are_alike(log, issuers) {
+    let gateway = text_of(&asked.gateway);
+    if is_of_book(book, gateway) || are_alike(gateway, log) || are_alike(gateway, control) {
+        Some(OptionName::Gateway)
+    } else if is_of_book(book, log) || are_alike(log, control) || are_alike(log, issuers) {
         Some(OptionName::Log)
     } else if is_of_book(book, control) || are_alike(control, issuers) {
         Some(OptionName::Control)

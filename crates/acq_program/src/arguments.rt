@@ -13,7 +13,7 @@ ghost use Rattle.acq_program.specs.Arguments.{AsksReplay, AsksReport, AsksStatus
 ghost use Rattle.acq_program.specs.Arguments.{BoundsAre, ListenedIs};
 ghost use Rattle.acq_program.specs.Options.{CountIs, DayIs, LogBytesIs};
 ghost use Rattle.acq_program.specs.Options.{FileIs, FrameWithinIs, GroupIs, IdleIs};
-ghost use Rattle.acq_program.specs.Options.{FromOneAddressIs};
+ghost use Rattle.acq_program.specs.Options.{FromOneAddressIs, GatewayWithinIs};
 ghost use Rattle.acq_program.specs.Arguments.{IsNoMemory};
 ghost use Rattle.acq_program.specs.Options.{LimitIs, MerchantIs};
 ghost use Rattle.acq_program.specs.Arguments.{PathIs, PatienceIs, Reads};
@@ -67,6 +67,10 @@ const USUAL_STOP_WITHIN: u64 = 10;
 
 /// How many seconds a terminal may wait for its issuer's answer, where nothing else is asked for.
 const USUAL_ANSWER_WITHIN: u64 = 30;
+
+/// How many seconds it may wait for a gateway where none is connected, where nothing else is asked
+/// for.
+const USUAL_GATEWAY_WITHIN: u64 = 0;
 
 /// How many seconds an answer of a host may take, where nothing else is asked for.
 const USUAL_WITHIN: u64 = 60;
@@ -193,6 +197,7 @@ fn listen_options(alloc: Global, options: &ArgMatches) -> Result<ListenOptions, 
     let patience = patience_of(options)?;
     let bounds = bounds_of(options)?;
     let issuers = issuers_option(alloc, options)?;
+    let gateway = gateway_option(alloc, options)?;
     let control = control_option(alloc, options)?;
     let log = log_option(alloc, options)?;
     Ok(ListenOptions {
@@ -204,6 +209,8 @@ fn listen_options(alloc: Global, options: &ArgMatches) -> Result<ListenOptions, 
         proxy_protocol: is_set(options, "proxy-protocol"),
         patience,
         issuers,
+        gateway,
+        end_waiting: is_set(options, "end-waiting"),
         moment,
         control,
         log,
@@ -394,6 +401,18 @@ fn issuers_option(alloc: Global, options: &ArgMatches) -> Result<Option<String>,
     }
 }
 
+/// The socket's file at which a gateway to issuers is asked for, if one is.
+fn gateway_option(alloc: Global, options: &ArgMatches) -> Result<Option<String>, UsageFault>
+    ensures given { IfOk result (λ gateway. option_map string_bytes gateway
+        ≡ (found_texts (found_of options.now)).gateway) }
+    ensures refused { IfErr result IsNoMemory }
+{
+    match options.get_str("gateway") {
+        Some(path) => Ok(Some(String::from_str(alloc, path)?)),
+        None => Ok(None),
+    }
+}
+
 /// The socket's file at which control connections are asked for, if they are.
 fn control_option(alloc: Global, options: &ArgMatches) -> Result<Option<String>, UsageFault>
     ensures given { IfOk result (λ control. option_map string_bytes control
@@ -554,11 +573,13 @@ fn patience_of(options: &ArgMatches) -> Result<Patience, UsageFault>
     let frame_within = frame_within_option(options)?;
     let stop_within = stop_within_option(options)?;
     let answer_within = answer_within_option(options)?;
+    let gateway_within = gateway_within_option(options)?;
     Ok(Patience {
         idle,
         frame_within,
         stop_within,
         answer_within,
+        gateway_within,
     })
 }
 
@@ -600,6 +621,16 @@ fn answer_within_option(options: &ArgMatches) -> Result<u64, UsageFault>
     match options.get_str("answer-within") {
         Some(text) => seconds_of(text).ok_or(UsageFault::BadValue(OptionName::AnswerWithin)),
         None => Ok(USUAL_ANSWER_WITHIN),
+    }
+}
+
+/// How many seconds it may wait for a gateway where none is connected: without the option none.
+fn gateway_within_option(options: &ArgMatches) -> Result<u64, UsageFault>
+    ensures { Reads (GatewayWithinIs (found_texts (found_of options.now))) result }
+{
+    match options.get_str("gateway-within") {
+        Some(text) => seconds_of(text).ok_or(UsageFault::BadValue(OptionName::GatewayWithin)),
+        None => Ok(USUAL_GATEWAY_WITHIN),
     }
 }
 

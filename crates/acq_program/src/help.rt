@@ -54,9 +54,9 @@ sign-offs) is answered, a merchant's request gets code 03, or 30 where it is mal
 other type gets no reply. MOMENT counts seconds since 1970-01-01 00:00:00 UTC.
 
 With --issuers this file stands in for the cards' issuers: a record of CSV for each card,
-`CARD,approved,ID`, `CARD,declined,CODE` or `CARD,none,`, and behind it, if wanted, one more field,
-the milliseconds that the answer takes. The first with a card decides. Without it, and for a card
-that isn't there, no issuer can be reached, so what one is asked for gets code 91.
+`CARD,approved,ID`, `CARD,declined,CODE` or `CARD,none,`, of which the first with a card decides.
+Without it, and for a card that isn't there, no issuer can be reached, so what one is asked for gets
+code 91.
 
 The status is 0 where all is well, 1 for a fault, 2 for wrong usage, 3 where memory ran out or the
 file failed. A fault is one line on standard error, and what was written before it stands:
@@ -87,6 +87,13 @@ one is served. With --together M, up to M connections are served at once, one me
 turn, so that none waits for another one's bytes. What they change is in the file before the reply
 goes out; a stop at any moment leaves all events so far, and may leave a request without its
 issuer's answer, which `acqd pending` then writes.
+
+The file of --issuers is as for `once`; a record may have one more field, the milliseconds that the
+answer takes. With --gateway PATH issuers are asked over this Unix socket's file, which its owner
+alone may use: docs/ISSUERS.md. Where no gateway is connected, a request waits for one for the
+SECONDS of --gateway-within, and then gets code 91, as where no issuer can be reached. With
+--end-waiting each request that waits in the book for its issuer's answer is ended first, without
+one, and standard error says how many were.
 
 With --control PATH, control connections are taken at this Unix socket's file, too, which its owner
 alone may open. Each line gets its answer: an event line, where `now` may stand for the moment, the
@@ -120,11 +127,12 @@ memory ran out or the file failed:
   acqd: 50 BadLength               a frame's length is 0 or above 4,096
   acqd: 51 Ended                   a connection ends inside a frame
   acqd: 52 Undecodable FAULT ELEMENT   a frame spells no message
-  acqd: 53 Read                    a read failed, or the port, the control socket, the log or a
+  acqd: 53 Read                    a read failed, or the port, a socket's file, the log or a
                                    connection can't be had, or a connection was silent, or a frame
                                    took, too long
   acqd: 54 Write BYTES             a write failed after so many bytes of a reply's frame
   acqd: 56 NoProxyHeader           with --proxy-protocol: a connection begins with no such header
+  acqd: 65 RowsMissing ROWS        a gateway knows of more rows than the book has, so many
 
 Example:
   acqd listen --db book.db --port 8583 --issuers issuers.csv";

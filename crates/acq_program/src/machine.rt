@@ -4,6 +4,7 @@ use acq_ask::Watch;
 use acq_book::Book;
 use acq_core::{Event, Limit};
 use acq_faults::{Fault, ListenOptions, Patience, Server};
+use acq_front::Issuer;
 use acq_link::{Sink, Source};
 use acq_serving::Connections;
 use acq_stand_in::StandIn;
@@ -16,7 +17,7 @@ use std::net::SocketAddrV4;
 pub trait Machine<B: Book + Drop>: Sized + Watch {
     ghost use Rattle.std.specs.Prelude.{◌≡◌, ◌⊎◌, IfErr, IfOk};
     ghost use Rattle.acq_core.specs.Pasts.{HasPast};
-    ghost use Rattle.acq_faults.specs.declared.fault.Fault.TheVariants.{Read, Silent};
+    ghost use Rattle.acq_faults.specs.declared.fault.Fault.TheVariants.{Memory, Read, Silent};
     ghost use Rattle.acq_faults.specs.Faults.{IsOfAnswers, IsOfListening};
     ghost use Rattle.acq_program.specs.BookFaults.{IsClosing, IsOfEvents, IsOpening};
 
@@ -25,6 +26,9 @@ pub trait Machine<B: Book + Drop>: Sized + Watch {
 
     /// Connections that come in at a port and are served at once.
     type Server: Server + Drop;
+
+    /// A gateway to issuers.
+    type Desk: Issuer + Drop;
 
     /// Where lines to a host go.
     type Lines: Sink + Drop;
@@ -76,9 +80,13 @@ pub trait Machine<B: Book + Drop>: Sized + Watch {
     ) -> Result<Self::Connections, Fault>
         ensures { IfErr result (λ fault. fault ≡ Read) };
 
+    /// Who asks the gateway that connects at the socket's file, if one is asked for.
+    fn desk(&self) -> Result<Self::Desk, Fault>
+        ensures { IfErr result (λ fault. fault ≡ Memory) };
+
     /// Listens as it is asked for, as `listen_at` does, for so many connections at once, and at the
-    /// socket for control connections, if one is asked for. A file, or for `-` standard error,
-    /// takes a log for operators, if one is asked for.
+    /// sockets for control connections and for a gateway, if they are asked for. A file, or for `-`
+    /// standard error, takes a log for operators, if one is asked for.
     fn serve_at(&self, alloc: Global, asked: &ListenOptions) -> Result<Self::Server, Fault>
         ensures { IfErr result IsOfListening };
 

@@ -32,12 +32,16 @@ pub enum OptionName {
     StopWithin,
     /// For how many seconds a terminal may wait for its issuer's answer.
     AnswerWithin,
+    /// For how many seconds it may wait for a gateway where none is connected.
+    GatewayWithin,
     /// How many connections are served at once.
     Together,
     /// How many of them may come from one address.
     FromOneAddress,
     /// The file that says what issuers answer.
     Issuers,
+    /// The socket's file at which a gateway to issuers connects.
+    Gateway,
     /// The socket's file at which control connections come.
     Control,
     /// The file that takes a log.
@@ -81,9 +85,11 @@ impl fmt::Display for OptionName {
             OptionName::FrameWithin => "--frame-within",
             OptionName::StopWithin => "--stop-within",
             OptionName::AnswerWithin => "--answer-within",
+            OptionName::GatewayWithin => "--gateway-within",
             OptionName::Together => "--together",
             OptionName::FromOneAddress => "--from-one-address",
             OptionName::Issuers => "--issuers",
+            OptionName::Gateway => "--gateway",
             OptionName::Control => "--control",
             OptionName::Log => "--log",
             OptionName::LogBytes => "--log-bytes",

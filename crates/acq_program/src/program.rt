@@ -29,8 +29,14 @@ const ANSWERING: &str = "The file of issuers' answers [default: `none` for each]
 const COMING_AT: &str =
     "The moment at which all frames come, 946684800 to 4102444799 [default: the clock's]";
 
+const GATEWAY: &str =
+    "A Unix socket's file at which a gateway to issuers connects, in place of --issuers";
+
 const FRAME_WITHIN: &str =
     "How long a frame may take, first byte to last, 0 to 999999, 0 for ever [default: 30]";
+
+const GATEWAY_WITHIN: &str =
+    "How long a terminal may wait where no gateway is connected, 0 to 999999 [default: 0]";
 
 /// That messages stand in lines of hexadecimal.
 const HEX_INPUT: Parameter<'static> = Parameter {
@@ -88,7 +94,7 @@ const ONCE: [Parameter<'static>; 3] = [
 ];
 
 /// What `listen` takes: its file, its port, how many connections come, and what is said of each.
-const LISTEN: [Parameter<'static>; 16] = [
+const LISTEN: [Parameter<'static>; 19] = [
     BOOK,
     Parameter {
         name: "port",
@@ -109,6 +115,11 @@ const LISTEN: [Parameter<'static>; 16] = [
         name: "issuers",
         kind: Optional("FILE"),
         help: ISSUERS,
+    },
+    Parameter {
+        name: "gateway",
+        kind: Optional("PATH"),
+        help: GATEWAY,
     },
     Parameter {
         name: "at",
@@ -134,6 +145,16 @@ const LISTEN: [Parameter<'static>; 16] = [
         name: "answer-within",
         kind: Optional("SECONDS"),
         help: "How long a terminal may wait for its issuer's answer, as --idle [default: 30]",
+    },
+    Parameter {
+        name: "gateway-within",
+        kind: Optional("SECONDS"),
+        help: GATEWAY_WITHIN,
+    },
+    Parameter {
+        name: "end-waiting",
+        kind: Flag,
+        help: "Requests that wait for their issuer's answer are ended first, without one",
     },
     Parameter {
         name: "together",

@@ -1,10 +1,14 @@
 //! One run of the program.
 
-ghost use Rattle.std.specs.Prelude.{◌≡◌, ◌≤◌, [], map, Ok, IfErr, IfOk, MatchResult, OnOk};
+ghost use Rattle.std.specs.Prelude.{◌≡◌, ◌≤◌, ℕ, [], map, true, false, Ok, IfErr, IfOk};
+ghost use Rattle.std.specs.Prelude.{MatchResult, OnOk};
 ghost use Rattle.clap.specs.Words.{fault_of, kind_of};
 ghost use Rattle.clap.specs.declared.error.kind.ErrorKind.TheVariants.{OutOfMemory};
 ghost use Rattle.acq_program.specs.Program.{program};
 ghost use Rattle.acq_program.specs.BookFaults.{IsClosing, IsOpening};
+ghost use Rattle.acq_core.specs.Pasts.{HasPast};
+ghost use Rattle.acq_front.specs.Stops.{left_of};
+ghost use Rattle.acq_commands.specs.Ending.{EndsWaiting};
 ghost use Rattle.acq_commands.specs.Runs.{RunsReplay};
 ghost use Rattle.acq_program.specs.Runs.{Does, IsQuiet, IsUntouched, MayCome};
 ghost use Rattle.acq_program.specs.Runs.{ReadsWhole, Runs, ServesAsked, ServesIn, Tells};
@@ -19,9 +23,9 @@ use crate::telling::tell_host;
 use crate::{Action, UsageFault, action_of};
 use acq_book::Book;
 use acq_commands::{
-    BookReport, HoldsOptions, NewBook, OnceOptions, Progress, ReplayOptions, TextSink, holds_of,
-    listen_on, listen_together_on, make, once_in_memory, once_on, replay_in_memory, replay_on,
-    report_on, show,
+    BookReport, HoldsOptions, NewBook, OnceOptions, Progress, ReplayOptions, TextSink,
+    end_waiting_on, holds_of, listen_on, listen_together_on, make, once_in_memory, once_on,
+    replay_in_memory, replay_on, report_on, show,
 };
 use acq_faults::{Fault, ListenOptions};
 use acq_front::{Clock, FixedClock, Issuer, NoIssuer};
@@ -272,7 +276,8 @@ fn once_over<
     }
 }
 
-/// Answers the frames of connections, and asks the issuers' file, or without one nobody.
+/// Answers the frames of connections, and asks the issuers' file, or the gateway, or without either
+/// nobody.
 fn listen<B: Lenient + Drop, M: Machine<B> + Drop, C: Clock, F: Sink>(
     alloc: Global,
     keys: RandomState,
@@ -285,6 +290,10 @@ fn listen<B: Lenient + Drop, M: Machine<B> + Drop, C: Clock, F: Sink>(
         Some(path) => {
             let answers = machine.read_answers(alloc, path.as_str());
             listen_at(alloc, keys, machine, asked, clock, answers, faults)
+        }
+        None if asked.gateway.is_some() => {
+            let desk = machine.desk();
+            listen_at(alloc, keys, machine, asked, clock, desk, faults)
         }
         None => listen_at(alloc, keys, machine, asked, clock, Ok(NoIssuer), faults),
     }
@@ -327,9 +336,12 @@ fn listen_over<B: Lenient + Drop, M: Machine<B> + Drop, C: Clock, I: Issuer + Dr
     let connections = machine.listen_at(asked.endpoint, asked.patience);
     let opened = machine.open_book(asked.path.as_str());
     let (book, mut issuer, mut connections) = all_opened(opened, issuers, connections)?;
+    let book = RecallingBook::new(alloc, keys, book);
+    let (book, ended) = end_waiting_first(alloc, book, asked, clock, faults);
+    ended?;
     closed::<B, M>(listen_on(
         alloc,
-        RecallingBook::new(alloc, keys, book),
+        book,
         &mut connections,
         asked.count,
         clock,
@@ -338,11 +350,37 @@ fn listen_over<B: Lenient + Drop, M: Machine<B> + Drop, C: Clock, I: Issuer + Dr
     ))
 }
 
+/// Ends the requests that wait for their issuer, where that is asked for. The book is given back
+/// with how it ended.
+fn end_waiting_first<B: Book + Drop, C: Clock, F: Sink>(
+    alloc: Global,
+    book: B,
+    asked: &ListenOptions,
+    clock: &mut C,
+    faults: &mut F,
+) -> (B, Result<(), Fault>)
+    requires past { B.is_open book → HasPast (B.tables book) }
+    // Where it is asked for, so many get no answer, and nothing else comes of it; else nothing does.
+    ensures ended { asked.now.end_waiting ≡ true → B.is_honest result.0 → B.is_open book
+        → (moment : ℕ) × C.may_give clock.old moment
+        × EndsWaiting moment (B.tables book) (left_of B.Book result.0) result.1 }
+    ensures unasked { asked.now.end_waiting ≡ false → (result.0 ≡ book) × (result.1 ≡ Ok tt)
+        × (clock.new ≡ clock.old) × (faults.new ≡ faults.old) }
+    ensures past { B.is_open result.0 → HasPast (B.tables result.0) }
+{
+    if asked.end_waiting {
+        end_waiting_on(alloc, book, clock, faults)
+    } else {
+        (book, Ok(()))
+    }
+}
+
 /// Whether connections are to be served as many at once are, of which one may be there alone.
 fn needs_server(asked: &ListenOptions) -> bool {
     asked.together > 1
         || asked.from_one_address.is_some()
         || asked.proxy_protocol
+        || asked.gateway.is_some()
         || asked.control.is_some()
         || asked.log.is_some()
 }
@@ -360,15 +398,20 @@ fn serve_over<B: Lenient + Drop, M: Machine<B> + Drop, C: Clock, I: Issuer + Dro
     let server = machine.serve_at(alloc, asked);
     let opened = machine.open_book(asked.path.as_str());
     let (book, mut issuer, mut server) = all_opened(opened, issuers, server)?;
-    let ran = listen_together_on(
-        alloc,
-        RecallingBook::new(alloc, keys, book),
-        &mut server,
-        asked.count,
-        clock,
-        &mut issuer,
-        faults,
-    );
+    let book = RecallingBook::new(alloc, keys, book);
+    let (book, ended) = end_waiting_first(alloc, book, asked, clock, faults);
+    let ran = match ended {
+        Ok(()) => listen_together_on(
+            alloc,
+            book,
+            &mut server,
+            asked.count,
+            clock,
+            &mut issuer,
+            faults,
+        ),
+        Err(fault) => (book, Err(fault)),
+    };
     M::end_serving(server, asked);
     closed::<B, M>(ran)
 }

@@ -177,6 +177,14 @@ impl<B: Lenient + Drop> Book for RecallingBook<B> {
         self.book.walk_pending(visitor)
     }
 
+    fn walk_requests_behind<V: Visit<Request>>(
+        &mut self,
+        rows: u64,
+        visitor: &mut V,
+    ) -> Result<(), BookFault> {
+        self.book.walk_requests_behind(rows, visitor)
+    }
+
     fn apply(&mut self, change: &Change) -> Result<(), BookFault> {
         let made = self.book.apply_any(change);
         match made {

@@ -1,5 +1,5 @@
--- Many connections to one host: the turns that it took, one after the other, by which connection each
--- came, and what each connection has of it.
+-- Many connections to one host: the turns that it took, one after the other, by which connection
+-- each came, and what each connection has of it.
 use Rattle.std.specs.Prelude.{◌≡◌, ◌≢◌, ◌⊎◌, ◌<◌, ◌==◌, ℕ, List, [], ◌∷◌, ◌++◌, map, true}
 use Rattle.std.specs.Prelude.{Option, Some, None, if◌then◌else◌}
 use Rattle.std.specs.List.{All, AllByRecursion, flat_map}
@@ -22,8 +22,8 @@ pub data Turn : Type 0 where
   Message : List ℕ → Turn
   AnswerTo : Query → Turn
 
--- What the host took by a turn: the moments and the verdicts that were given for it, the events that
--- it made, what was asked by it and is still to be answered, and what was replied.
+-- What the host took by a turn: the moments and the verdicts that were given for it, the events
+-- that it made, what was asked by it and is still to be answered, and what was replied.
 pub record Taken : Type 0 where
   pub turn : Turn
   pub moments : List ℕ
@@ -160,8 +160,8 @@ pub record Connection : Type 0 where
   pub stage : Stage
 
 -- What came are the frames of the messages among what was taken, and behind them what is held; what
--- went out, with what is still to be written, are the frames of what was said to it; and an issuer's
--- answer came to what was asked, before the next message.
+-- went out, with what is still to be written, are the frames of what was said to it; and an
+-- issuer's answer came to what was asked, before the next message.
 pub record HasOf (xs : List Taken) (c : Connection) : Type 0 where
   pub came : FramesThen c.came (messages_in xs) c.held
   pub written : c.went ++ c.unsent ≡ framed (said_to xs)

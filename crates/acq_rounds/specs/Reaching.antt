@@ -12,8 +12,8 @@ pub record Reaches (old : Tables) (left : Left) (such : List Event → Type 0) :
   pub tables : left.tables ≡ tables_after old events
   pub stop : LeavesAll left old events
 
--- So it is, but memory or the store refused a call, perhaps with one more event in hand, or taken and
--- not told. A stop leaves the events that were taken, or these and the one in hand.
+-- So it is, but memory or the store refused a call, perhaps with one more event in hand, or taken
+-- and not told. A stop leaves the events that were taken, or these and the one in hand.
 pub record ReachesSome (old : Tables) (left : Left) (such : List Event → Type 0) : Type 0 where
   pub events : List Event
   pub are_such : such events

@@ -160,10 +160,10 @@ module _ {O : Type 0} (may_give : ℕ → Type 0) (may_say : Saying) (follow : F
   -- those behind them, and what it said to each act's turn is what it says to the events that the
   -- turn makes, over the tables behind what was before it. Of each connection that was had, the
   -- messages among its own acts are what came over it, but for what was held; where an issuer
-  -- answers later, its answer to what a message asked is the act behind that; and what went out over
-  -- it are the frames of what was said to its acts, but for what was still to be written. No two
-  -- have one number, and each that came is among them. Others that had nothing before follow the
-  -- same steps.
+  -- answers later, its answer to what a message asked is the act behind that; and what went out
+  -- over it are the frames of what was said to its acts, but for what was still to be written. No
+  -- two have one number, and each that came is among them. Others that had nothing before follow
+  -- the same steps.
   pub record HasServed (old new : Tables) (had : List Connection) (given : ℕ)
       (others_then others : O) : Type 0 where
     pub steps : List Step

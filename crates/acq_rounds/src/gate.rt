@@ -30,7 +30,8 @@ pub trait Gate<L: Line, T: Talk> {
     // Whether it said that no round is to follow.
     ghost has_stopped: { Self → Bool };
 
-    // What whoever else it serves between two groups has had, as control connections have: its type,
+    // What whoever else it serves between two groups has had, as control connections have: its
+    // type,
     ghost aside: { Type 0 };
 
     // what they had,
@@ -102,8 +103,8 @@ pub trait Gate<L: Line, T: Talk> {
         ensures others { others self.new ≡ others self.old }
         ensures ended { ended self.new ≡ ended self.old };
 
-    /// A turn of this connection was taken, its group is kept, and what was said to it is about to be
-    /// written, or its issuer's answer is waited for.
+    /// A turn of this connection was taken, its group is kept, and what was said to it is about to
+    /// be written, or its issuer's answer is waited for.
     fn said(&mut self, place: &Place<L, T>)
         ensures given { given self.new ≡ given self.old }
         ensures others { others self.new ≡ others self.old }

@@ -21,8 +21,8 @@ use std::alloc::Global;
 /// The most bytes that are read at once.
 const PIECE: usize = 4096;
 
-/// A connection: its number, its line, what is said over it, what its next turn waits for, and how it
-/// ended, if it did.
+/// A connection: its number, its line, what is said over it, what its next turn waits for, and how
+/// it ended, if it did.
 #[derive(Drop)]
 pub struct Place<L, T> {
     number: u64,
@@ -124,8 +124,8 @@ impl<L: Line, T: Talk> Place<L, T> {
         }
     }
 
-    /// Whether it has something to do before it reads on. What it holds may be a bad length, which is
-    /// told even where its line ended by then.
+    /// Whether it has something to do before it reads on. What it holds may be a bad length, which
+    /// is told even where its line ended by then.
     fn is_busy(&self) -> bool {
         match &self.stage {
             Stage::Listening => {

@@ -22,8 +22,8 @@ use acq_reasons::Reason;
 use std::alloc::Global;
 
 /// Has the host take turns in one group, all of them or none, and returns what the host said to
-/// each. A message is taken with its issuer's answer where it is asked and the answer is there; where
-/// it isn't, what the host said is what is asked. Before the group is kept nothing is said.
+/// each. A message is taken with its issuer's answer where it is asked and the answer is there;
+/// where it isn't, what the host said is what is asked. Before the group is kept nothing is said.
 pub fn take_together<B: Book + Drop, C: Clock, I: Issuer>(
     alloc: Global,
     turns: Vec<Turn<'_>>,

@@ -41,8 +41,8 @@ abbrev pub AllRead : List (List ℕ) → Type 0
 AllRead messages = list_all is_read messages ≡ true
 
 -- What came are the frames of the messages and then the rest. The host took the messages' events,
--- asking the issuer for each answer, and what went out are the frames of the replies to them. A stop
--- leaves all these events.
+-- asking the issuer for each answer, and what went out are the frames of the replies to them. A
+-- stop leaves all these events.
 pub record AllAnswered (may_say : Saying) (old : Tables) (left : Left) (c : Connection) : Type 0
   where
     pub came : FramesThen c.input c.messages c.rest

@@ -35,7 +35,7 @@ use Rattle.acq_sql_changes.specs.Refused.{FailsAmong, FailsInside}
 use Rattle.acq_sql_writes.specs.Refused.{HasNumberLeft, HasNumbersLeft}
 use Rattle.acq_sql_rows.specs.Standing.{FailsExcused, FailsExcusedAt, IsOpenOver}
 use Rattle.acq_sql_changes.proofs.TakenTables.{number_left}
-use Rattle.acq_sql_reads.specs.Failing.{CanBeWalked, IsTold}
+use Rattle.acq_sql_reads.specs.Failing.{AreNumbered, CanBeWalked, IsTold}
 use Rattle.acq_sql.specs.Applied.{HasShortEnd}
 use Rattle.acq_sql.specs.Faults.{book_fault_of}
 use Rattle.acq_sql.specs.Kept.{Kept}
@@ -204,6 +204,9 @@ module _ (s : State) (t : Tables) (o : IsOpenAt s t) (left : HasNumbersLeft s.no
       let few = few_requests in
       let some = length-filter (λ row. is_pending row.status) t.requests in
       (o.past, omega (arith, few, some))
+
+  pub requests_walked : HasPast t × AreNumbered t.requests
+  requests_walked = let few = few_requests in (o.past, omega (arith, few))
 
 -- what it holds of a day
 module _ (day : ℕ) (s : State) (t : Tables) (o : IsOpenAt s t) (left : HasNumbersLeft s.now) where

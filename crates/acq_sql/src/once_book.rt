@@ -187,6 +187,14 @@ impl<S: Alter> Book for OnceBook<S> {
         self.book.walk_pending(visitor)
     }
 
+    fn walk_requests_behind<V: Visit<Request>>(
+        &mut self,
+        rows: u64,
+        visitor: &mut V,
+    ) -> Result<(), BookFault> {
+        self.book.walk_requests_behind(rows, visitor)
+    }
+
     fn apply(&mut self, change: &Change) -> Result<(), BookFault> {
         self.apply_any(change)
     }

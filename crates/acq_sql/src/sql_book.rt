@@ -441,6 +441,21 @@ impl<S: Alter> Book for SqlBook<S> {
         counted(&mut self.failures, walked)
     }
 
+    fn walk_requests_behind<V: Visit<Request>>(
+        &mut self,
+        rows: u64,
+        visitor: &mut V,
+    ) -> Result<(), BookFault> {
+        self.settled();
+        let walked = acq_sql_reads::walk_requests_behind(
+            &mut self.connection,
+            self.alloc,
+            rows,
+            visitor,
+        );
+        counted(&mut self.failures, walked)
+    }
+
     fn apply(&mut self, change: &Change) -> Result<(), BookFault> {
         self.apply_any(change)
     }

@@ -3,7 +3,7 @@ use Rattle.std.proofs.Common.{◌≡◌, ◌++◌, inl, inr, ℕ, true, List, []
 use Rattle.std.proofs.Common.{length, map, None, Result, IfErr, refl, sym, ap, subst}
 use Rattle.std.proofs.Common.{arith, min}
 use Rattle.std.specs.List.{AllByRecursion}
-use Rattle.std.proofs.lemmas.List.{length-append, length-map}
+use Rattle.std.proofs.lemmas.List.{length-append, length-drop, length-map}
 use Rattle.sqlite_value.specs.declared.value.Value.TheVariants.{Text}
 use Rattle.sqlite_value.specs.Order.{Row}
 use Rattle.sqlite_sql.specs.Query.{Query}
@@ -30,7 +30,8 @@ use Rattle.acq_sql_rows.specs.Rows.{version, merchant_row, posting_row, request_
 use Rattle.acq_sql_rows.specs.declared.form.Form.{Form}
 use Rattle.acq_sql_rows.specs.Schema.{book_schema}
 use Rattle.acq_sql_rows.specs.Standing.{IsOpenOver}
-use Rattle.acq_sql_reads.specs.Failing.{CanBeWalked, IsMerchantRow, IsPostingRow, IsRequestRow}
+use Rattle.acq_sql_reads.specs.Failing.{AreNumbered, CanBeWalked, IsMerchantRow, IsPostingRow}
+use Rattle.acq_sql_reads.specs.Failing.{IsRequestRow}
 use Rattle.acq_sql_reads.specs.Shown.{FailsToHandOver, ShowsOnly}
 use Rattle.acq_sql_reads.specs.WalkTexts as text
 use Rattle.acq_sql_reads.specs.WalkQueries as query
@@ -44,6 +45,8 @@ use Rattle.acq_sql_reads.proofs.PendingWalk.{waiting_among, waiting_list}
 use Rattle.acq_sql_reads.proofs.PostingWalk.{postings_among, postings_list}
 use Rattle.acq_sql_reads.proofs.PostingWalk.{above_among, above_list, behind_among, behind_list}
 use Rattle.acq_sql_reads.proofs.PostingsAbove.{greatest_number}
+use Rattle.acq_sql_reads.proofs.RequestsBehind.{none_behind, requests_behind_among}
+use Rattle.acq_sql_reads.proofs.RequestsBehind.{requests_behind_list}
 use Rattle.acq_sql_reads.proofs.Walking.{ShowsList, front}
 
 -- ---- its query
@@ -71,6 +74,10 @@ holds_alone = record { whole = λ form. refl; given = λ form. refl }
 waiting_alone : IsAlone text.waiting_text 0
 unfolding understood everything book_schema
 waiting_alone = record { whole = λ form. refl; given = λ form. refl }
+
+requests_behind_alone : IsAlone text.requests_behind_text 1
+unfolding understood everything book_schema
+requests_behind_alone = record { whole = λ form. refl; given = λ form. refl }
 
 typed_postings : (form : Form) (day : ℕ)
     → accepts_program (book_schema form) [] query.postings_query (number day ∷ []) ≡ true
@@ -102,6 +109,11 @@ typed_holds form m = refl
 typed_waiting : (form : Form) → accepts_program (book_schema form) [] query.waiting_query [] ≡ true
 unfolding book_schema
 typed_waiting form = refl
+
+typed_requests_behind : (form : Form) (n : ℕ)
+    → accepts_program (book_schema form) [] query.requests_behind_query (number n ∷ []) ≡ true
+unfolding book_schema
+typed_requests_behind form n = refl
 
 -- ---- its rows
 
@@ -230,11 +242,46 @@ module _ {V : Type 0} (old new : State) (res : Result V Error) (t : Tables)
       query.holds_query.limit (book_schema has.0) (Text m ∷ []) (typed_holds has.0 m) db e has.1)
       (λ y here. request_fits_row t past y (holds_among m t y here))
 
+  -- it hands over requests that pass a test, by rowid
+  walked_requests : (sql : List ℕ) (params : Row) (test : List Term)
+      {shows : Row → Request → Type 0} {ys : List Request}
+      → ShowsList sql params old shows (query.query_of_requests test) request_row ys
+      → (fits : Row → Type 0) → IsAlone sql (length params)
+      → ((form : Form)
+      → accepts_program (book_schema form) [] (query.query_of_requests test) params ≡ true)
+      → ((y : Request) → Has ys y → fits (request_row y)) → CanBeWalked ys
+      → Walked sql params fits → IfErr res (IsExcused old new)
+  walked_requests sql params test list fits lone typed =
+      let it = query.query_of_requests test in
+      walked sql params list fits lone
+      (λ db e has. query_succeeds 6 test it.project it.order it.limit (book_schema has.0) params
+      (typed has.0) db e has.1)
+
   pub waiting_excused : CanBeWalked (waiting_at t)
       → Walked text.waiting_text [] IsRequestRow → IfErr res (IsExcused old new)
   waiting_excused =
-      walked text.waiting_text [] (waiting_list old t at.holds) IsRequestRow
-      waiting_alone (λ db e has. query_succeeds 6 query.waiting_query.filter
-      query.waiting_query.project query.waiting_query.order
-      query.waiting_query.limit (book_schema has.0) [] (typed_waiting has.0) db e has.1)
+      walked_requests text.waiting_text [] query.waiting_query.filter
+      (waiting_list old t at.holds) IsRequestRow waiting_alone typed_waiting
       (λ y here. request_fits_row t past y (waiting_among t y here))
+
+  pub requests_behind_excused : (n : ℕ) → AreNumbered t.requests
+      → Walked text.requests_behind_text (number n ∷ []) IsRequestRow
+      → IfErr res (IsExcused old new)
+  requests_behind_excused n few =
+      walked_requests text.requests_behind_text (number n ∷ []) query.requests_behind_query.filter
+      (requests_behind_list n old t at.holds) IsRequestRow requests_behind_alone
+      (λ form. typed_requests_behind form n)
+      (λ y here. request_fits_row t past y (requests_behind_among n t y here))
+      (let some = length-drop n t.requests in omega (arith, few, some))
+
+  -- behind as many rows as a column can number there are none
+  pub none_behind_excused : AreNumbered t.requests
+      → Walked text.requests_behind_text (number greatest_number ∷ []) (λ row. ⊥)
+      → IfErr res (IsExcused old new)
+  none_behind_excused few =
+      let none = none_behind t few in
+      walked_requests text.requests_behind_text (number greatest_number ∷ [])
+      query.requests_behind_query.filter (requests_behind_list greatest_number old t at.holds)
+      (λ row. ⊥) requests_behind_alone (λ form. typed_requests_behind form greatest_number)
+      (λ y here. subst (λ l. Has l y) none here)
+      (subst CanBeWalked (sym none) (omega arith))

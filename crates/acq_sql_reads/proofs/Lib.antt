@@ -23,7 +23,9 @@ pub mod PostingWalk
 pub mod HoldReferences
 pub mod HoldWalk
 pub mod RowidOrder
+pub mod RowidWalk
 pub mod PendingWalk
+pub mod RequestsBehind
 pub mod Failing
 pub mod CardsOfPostings
 pub mod FailingWalks

@@ -1,6 +1,7 @@
 -- What ORDER BY rowid gives of numbered rows: those that pass, in the order of their list.
-use Rattle.std.proofs.Common.{◌≡◌, ◌==◌, ◌<◌, ◌≤◌, ℕ, suc, pos, Bool, true, false, cond, List, []}
-use Rattle.std.proofs.Common.{◌∷◌, map, filter, length, nat_lt, refl, ap, ◌∙◌, arith}
+use Rattle.std.proofs.Common.{◌≡◌, ◌==◌, ◌<◌, ◌≤◌, ◌+◌, ℕ, zero, suc, pos, Bool, true, false}
+use Rattle.std.proofs.Common.{cond, List, [], ◌∷◌, drop, map, filter, length, nat_lt, refl, ap}
+use Rattle.std.proofs.Common.{◌∙◌, arith}
 use Rattle.std.specs.List.{AllByRecursion}
 use Rattle.std.proofs.lemmas.Bool.Decides.{nat_tests}
 use Rattle.sqlite_value.specs.declared.value.Value.TheVariants.{Int}
@@ -13,7 +14,10 @@ use Rattle.acq_book.specs.Order.{put_in_order, in_order}
 is_other : (m n : ℕ) → m < n → (n == m) ≡ false
 is_other m n low = grind (arith, nat_tests)
 
-not_before : (m n : ℕ) → m < n → nat_lt n m ≡ false
+is_before : (m n : ℕ) → m < n → nat_lt m n ≡ true
+is_before m n low = grind (arith, nat_tests)
+
+not_before : (m n : ℕ) → m ≤ n → nat_lt n m ≡ false
 not_before m n low = grind (arith, nat_tests)
 
 module _ {X : Type 0} where
@@ -43,6 +47,28 @@ module _ {X : Type 0} where
       ≡ map g (cond b (x ∷ filter q xs) (filter q xs)))
       [ true ↦ ap (λ l. g x ∷ l) later | false ↦ later ]
 
+  -- those behind so many rows have rowids above that number
+  all_behind : (n k : ℕ) (xs : List X) → n < k
+      → filter (λ p. nat_lt n p.0) (placed_from k xs) ≡ placed_from k xs
+  all_behind n k [] low = refl
+  all_behind n k (x ∷ xs) low =
+      rw (is_before n k low) (ap (λ l. (k, x) ∷ l) (all_behind n (suc k) xs (omega arith)))
+
+  all_placed : {A : Type 0} (g : X → A) (k : ℕ) (xs : List X)
+      → map (λ p. g p.1) (placed_from k xs) ≡ map g xs
+  all_placed g k [] = refl
+  all_placed g k (x ∷ xs) = ap (λ l. g x ∷ l) (all_placed g (suc k) xs)
+
+  pub behind_placed : {A : Type 0} (g : X → A) (rows n k : ℕ) (xs : List X) → n ≡ rows + k
+      → map (λ p. g p.1) (filter (λ p. nat_lt n p.0) (placed_from (suc k) xs))
+      ≡ map g (drop rows xs)
+  behind_placed g zero n k xs is =
+      ap (map (λ (p : ℕ × X). g p.1)) (all_behind n (suc k) xs (omega arith))
+      ∙ all_placed g (suc k) xs
+  behind_placed g (suc rows) n k [] is = refl
+  behind_placed g (suc rows) n k (x ∷ xs) is =
+      rw (not_before (suc k) n (omega arith)) (behind_placed g rows n (suc k) xs (omega arith))
+
   -- ---- the rowids rise
 
   abbrev pub Precedes : ℕ × X → ℕ × X → Type 0
@@ -60,10 +86,9 @@ module _ {X : Type 0} where
   placed_rise n [] = tt
   placed_rise n (x ∷ xs) = (all_after n (suc n) xs (omega arith), placed_rise (suc n) xs)
 
-  pub passing_rise : (q : X → Bool) (n : ℕ) (xs : List X)
-      → IsAscending Precedes (filter (λ p. q p.1) (placed_from n xs))
-  passing_rise q n xs =
-      ascending-filter Precedes (λ p. q p.1) (placed_from n xs) (placed_rise n xs)
+  pub passing_rise : (q : ℕ × X → Bool) (n : ℕ) (xs : List X)
+      → IsAscending Precedes (filter q (placed_from n xs))
+  passing_rise q n xs = ascending-filter Precedes q (placed_from n xs) (placed_rise n xs)
 
   -- ---- so none comes twice
 
@@ -91,7 +116,7 @@ module _ {X : Type 0} where
   first_put : (p : ℕ × X) (ps : List (ℕ × X)) → AllByRecursion (Precedes p) ps
       → put_in_order precedes p ps ≡ p ∷ ps
   first_put p [] above = refl
-  first_put p (r ∷ ps) above = rw (not_before p.0 r.0 above.0) refl
+  first_put p (r ∷ ps) above = rw (not_before p.0 r.0 (omega (arith, above.0))) refl
 
   pub rising_in_order : (ps : List (ℕ × X)) → IsAscending Precedes ps → in_order precedes ps ≡ ps
   rising_in_order [] up = refl

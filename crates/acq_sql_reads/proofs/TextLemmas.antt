@@ -145,7 +145,7 @@ reconciliation_asks = record {
   begins = refl;
 }
 
-abbrev request_names : List (List ℕ)
+abbrev pub request_names : List (List ℕ)
 request_names =
     codes "merchant" ∷ codes "terminal" ∷ codes "kind" ∷ codes "trace" ∷ codes "stamp"
     ∷ codes "essence"

@@ -3,7 +3,7 @@ use Rattle.std.proofs.Common.{ℕ, List, refl, [], ◌∷◌, codes}
 use Rattle.sqlite_tied.specs.Compute.{everything}
 use Rattle.sqlite.specs.Listing.{understood}
 use Rattle.acq_sql_rows.specs.Schema.{book_schema}
-use Rattle.acq_sql_reads.proofs.TextLemmas.{Asks}
+use Rattle.acq_sql_reads.proofs.TextLemmas.{Asks, request_names}
 use Rattle.acq_sql_reads.specs.WalkTexts as text
 use Rattle.acq_sql_reads.specs.WalkQueries as query
 
@@ -50,13 +50,7 @@ merchants_asks = record {
   begins = refl;
 }
 
-pub holds_asks : Asks text.holds_text query.holds_query
-    (codes "merchant" ∷ codes "terminal" ∷ codes "kind" ∷ codes "trace" ∷ codes "stamp"
-    ∷ codes "essence"
-    ∷ codes "day" ∷ codes "status" ∷ codes "admitted" ∷ codes "reference" ∷ codes "follows"
-    ∷ codes "amount"
-    ∷ codes "leg" ∷ codes "card" ∷ codes "acquirer" ∷ codes "hold_days" ∷ codes "until"
-    ∷ codes "reply" ∷ [])
+pub holds_asks : Asks text.holds_text query.holds_query request_names
 unfolding understood everything book_schema
 holds_asks = record {
   is = λ form. refl;
@@ -65,15 +59,19 @@ holds_asks = record {
   begins = refl;
 }
 
-pub waiting_asks : Asks text.waiting_text query.waiting_query
-    (codes "merchant" ∷ codes "terminal" ∷ codes "kind" ∷ codes "trace" ∷ codes "stamp"
-    ∷ codes "essence"
-    ∷ codes "day" ∷ codes "status" ∷ codes "admitted" ∷ codes "reference" ∷ codes "follows"
-    ∷ codes "amount"
-    ∷ codes "leg" ∷ codes "card" ∷ codes "acquirer" ∷ codes "hold_days" ∷ codes "until"
-    ∷ codes "reply" ∷ [])
+pub waiting_asks : Asks text.waiting_text query.waiting_query request_names
 unfolding understood everything book_schema
 waiting_asks = record {
+  is = λ form. refl;
+  plain = λ form. (refl, refl);
+  unlisted = λ form. refl;
+  begins = refl;
+}
+
+pub requests_behind_asks :
+    Asks text.requests_behind_text query.requests_behind_query request_names
+unfolding understood everything book_schema
+requests_behind_asks = record {
   is = λ form. refl;
   plain = λ form. (refl, refl);
   unlisted = λ form. refl;

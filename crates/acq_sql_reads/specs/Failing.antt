@@ -87,6 +87,10 @@ IsEnrolledFrom id first t =
 abbrev pub CanBeWalked : {X : Type 0} → List X → Type 0
 CanBeWalked rows = length rows < 2 ^ 64 - 1
 
+-- they are numbered from 1, and a column can keep the number of each
+abbrev pub AreNumbered : {X : Type 0} → List X → Type 0
+AreNumbered rows = length rows < 2 ^ 63
+
 -- count(*) tells so many, and not only that there are more
 abbrev pub IsTold : ℕ → Type 0
 IsTold many = many < 2 ^ 63 - 1

@@ -49,6 +49,12 @@ abbrev pub holds_query : Query
 holds_query =
     plain_query 6 (is_param 1 0 ∷ is_hold) (columns 1 18) ((column 10, rising) ∷ [])
 
--- column 0 is the rowid, which rises as rows come
+-- requests that pass, by rowid, which is column 0 and rises as rows come
+abbrev pub query_of_requests : List Term → Query
+query_of_requests passing = plain_query 6 passing (columns 1 18) ((column 0, rising) ∷ [])
+
 abbrev pub waiting_query : Query
-waiting_query = plain_query 6 (has_status 1 ∷ []) (columns 1 18) ((column 0, rising) ∷ [])
+waiting_query = query_of_requests (has_status 1 ∷ [])
+
+abbrev pub requests_behind_query : Query
+requests_behind_query = query_of_requests (is_above 0 0 ∷ [])

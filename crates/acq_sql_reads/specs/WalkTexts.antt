@@ -2,6 +2,7 @@
 use Rattle.std.specs.Prelude.{List, ℕ}
 use Rattle.acq_sql_reads.specs.declared.walks.TheConstants.{POSTINGS, ABOVE, BEHIND}
 use Rattle.acq_sql_reads.specs.declared.walks.TheConstants.{MERCHANTS, HOLDS, WAITING}
+use Rattle.acq_sql_reads.specs.declared.walks.TheConstants.{REQUESTS_BEHIND}
 
 abbrev pub postings_text : List ℕ
 postings_text = POSTINGS.now
@@ -22,3 +23,6 @@ holds_text = HOLDS.now
 -- a pending request: its status is 1
 abbrev pub waiting_text : List ℕ
 waiting_text = WAITING.now
+
+abbrev pub requests_behind_text : List ℕ
+requests_behind_text = REQUESTS_BEHIND.now

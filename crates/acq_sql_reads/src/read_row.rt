@@ -10,7 +10,7 @@ ghost use Rattle.acq_sql_reads.specs.Failing.{IsRequestRow};
 use crate::posting_row::read_posting;
 use crate::{read_merchant, read_request};
 use acq_core::{Merchant, Posting, Request};
-use sqlite::{Error, Row};
+use sqlite::{Error, ErrorCode, Row};
 use std::alloc::Global;
 
 /// Reads rows of one kind.
@@ -70,5 +70,19 @@ impl ReadRow<Request> for RequestRows {
 
     fn read(&self, row: &Row) -> Result<Request, Error> {
         read_request(self.alloc, row)
+    }
+}
+
+/// Requests behind more rows than there can be: none is such as the host has written.
+#[derive(Drop)]
+pub(crate) struct NoRequestRows;
+
+impl ReadRow<Request> for NoRequestRows {
+    ghost shows = { λ row r. ⊥ };
+
+    ghost fits = { λ row. ⊥ };
+
+    fn read(&self, _row: &Row) -> Result<Request, Error> {
+        Err(Error::SqliteFailure(ErrorCode::DatabaseCorrupt))
     }
 }

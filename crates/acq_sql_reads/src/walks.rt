@@ -5,14 +5,14 @@ ghost use Rattle.sqlite.specs.Held.{state};
 ghost use Rattle.sqlite_value.specs.Value.{owned};
 ghost use Rattle.row_lemmas.specs.Values.{number};
 ghost use Rattle.acq_core.specs.Pasts.{HasPast};
-ghost use Rattle.acq_book.specs.Lookups.{holds_at, merchants_at, waiting_at};
+ghost use Rattle.acq_book.specs.Lookups.{holds_at, merchants_at, waiting_at, requests_behind_at};
 ghost use Rattle.acq_book.specs.Lookups.{postings_at, postings_above_at, postings_behind_at};
 ghost use Rattle.acq_book.specs.Visits.{SawRows};
-ghost use Rattle.acq_sql_reads.specs.Failing.{CanBeWalked, FailsOnlyExcusedWhere};
+ghost use Rattle.acq_sql_reads.specs.Failing.{AreNumbered, CanBeWalked, FailsOnlyExcusedWhere};
 ghost use Rattle.acq_sql_reads.specs.Looked.{LooksOnly};
 ghost use Rattle.acq_sql_reads.specs.Walked.{WalksAll, WalksSome, WalksAllWhere, WalksSomeWhere};
 
-use crate::read_row::{MerchantRows, PostingRows, RequestRows};
+use crate::read_row::{MerchantRows, NoRequestRows, PostingRows, RequestRows};
 use crate::show_rows::show_rows;
 use acq_book::Visit;
 use acq_core::{Merchant, Posting, Request};
@@ -43,6 +43,13 @@ const HOLDS: &str = "SELECT merchant, terminal, kind, trace, stamp, essence, day
 const WAITING: &str = "SELECT merchant, terminal, kind, trace, stamp, essence, day, status, \
     admitted, reference, follows, amount, leg, card, acquirer, hold_days, until, reply \
     FROM requests WHERE status = 1 ORDER BY rowid";
+
+const REQUESTS_BEHIND: &str = "SELECT merchant, terminal, kind, trace, stamp, essence, day, \
+    status, admitted, reference, follows, amount, leg, card, acquirer, hold_days, until, reply \
+    FROM requests WHERE rowid > ?1 ORDER BY rowid";
+
+/// The greatest number that a column can keep.
+const GREATEST: u64 = i64::MAX as u64;
 
 /// Hands over the postings of a day, each with its number, in order of merchant and number.
 pub fn walk_postings<S: Alter, V: Visit<(u64, Posting)>>(
@@ -105,7 +112,7 @@ pub fn walk_postings_above<S: Alter, V: Visit<(u64, Posting)>>(
 fn number_or_greatest(n: u64) -> ValueRef<'static>
     ensures { owned result ≡ number (min n (2 ^ 63 - 1)) }
 {
-    number_value(n.min(i64::MAX as u64))
+    number_value(n.min(GREATEST))
 }
 
 /// Hands over those of a day of the merchants whose names are behind one, in order of merchant and
@@ -208,4 +215,39 @@ pub fn walk_pending<S: Alter, V: Visit<Request>>(
         (λ t. CanBeWalked (waiting_at t)) }
 {
     show_rows(conn, WAITING, &[], &RequestRows { alloc }, visitor)
+}
+
+/// Hands over the requests behind so many rows, in the order in which they came.
+pub fn walk_requests_behind<S: Alter, V: Visit<Request>>(
+    conn: &mut Connection<S>,
+    alloc: Global,
+    rows: u64,
+    visitor: &mut V,
+) -> Result<(), Error>
+    ensures seen { WalksAll (state S.Store conn.old) (state S.Store conn.new) result
+        V.sees (λ t. requests_behind_at t rows) visitor.old visitor.new }
+    ensures begun { WalksSome (state S.Store conn.old) (state S.Store conn.new) result
+        V.sees (λ t. requests_behind_at t rows) visitor.old visitor.new }
+    ensures shown { SawRows V.sees visitor.old visitor.new (is_ok result) }
+    ensures looks { LooksOnly (state S.Store conn.old) (state S.Store conn.new) (is_ok result) }
+    ensures fails { FailsOnlyExcusedWhere (state S.Store conn.old) (state S.Store conn.new) result
+        (λ t. AreNumbered t.requests) }
+{
+    if rows > GREATEST {
+        // A row has a number that a column can keep, so there are none.
+        return show_rows(
+            conn,
+            REQUESTS_BEHIND,
+            &[number_value(GREATEST)],
+            &NoRequestRows,
+            visitor,
+        );
+    }
+    show_rows(
+        conn,
+        REQUESTS_BEHIND,
+        &[number_value(rows)],
+        &RequestRows { alloc },
+        visitor,
+    )
 }

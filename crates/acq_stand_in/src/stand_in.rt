@@ -118,4 +118,9 @@ impl Issuer for StandIn {
     {
         self.takes_for(&query.card)
     }
+
+    /// Whether it is there at once: when a later one is, whoever asks counts.
+    fn has_answer(&mut self, query: &Query) -> bool {
+        self.takes_for(&query.card).is_zero()
+    }
 }

@@ -69,6 +69,12 @@ module _ (old : Tables) (mid left : Left) (a b c : Aside)
       ReachesBy {X = Unit {0}} old left (GoesOn old a c) (Err f)
   refused_on f two = some_on two
 
+  -- whether the next part was refused or not
+  pub reached_by : (r : Result (Unit {0}) book_fault.BookFault) →
+      ReachesBy mid.tables left (GoesOn mid.tables b c) r → ReachesBy old left (GoesOn old a c) r
+  reached_by (Ok u) two = reached_on two
+  reached_by (Err f) two = some_on two
+
 module _ {such : List Event → Type 0} where
   -- where some were, and none was refused
   pub some_of : (old : Tables) (left : Left) → Reaches old left such → ReachesSome old left such
@@ -191,6 +197,11 @@ looked_some old left a looked = record {
   tables = looked.tables;
   stop = record { tables = λ t l. inl (looked.stop.tables t l); stored = looked.stop.stored };
 }
+
+-- one look behind another
+pub looked_twice : (old : Tables) (mid left : Left) → mid.tables ≡ old → Looked mid.tables left →
+    Looked old left
+looked_twice old mid left same two = subst (λ (t : Tables). Looked t left) same two
 
 -- behind a look
 pub looked_then : (old mid : Tables) (left : Left) (a b : Aside)

@@ -18,8 +18,8 @@ going_on (Err Memory) = Err book.TheVariants.Memory
 going_on (Err Store) = Err book.TheVariants.Store
 going_on other = Ok tt
 
--- The tables were looked at, and are as they were; where the look was refused, they are wherever the
--- book is open.
+-- The tables were looked at, and are as they were; where the look was refused, they are wherever
+-- the book is open.
 pub record Looked (old : Tables) (left : Left) : Type 0 where
   pub tables : left.is_open → left.tables ≡ old
   pub stop : LeavesAll left old []

@@ -7,6 +7,7 @@ ghost use Rattle.acq_controls.proofs.Staying.{past_group, past_untold};
 ghost use Rattle.acq_tcp.specs.Terminals.{connection_of, controls_at, ended_at, given_at};
 ghost use Rattle.acq_tcp.specs.Terminals.{stopped_at};
 
+use crate::control_stream::ControlStream;
 use crate::had::Given;
 use crate::log_target::LogTarget;
 use crate::open_places::OpenPlaces;
@@ -19,7 +20,7 @@ use acq_front::{Clock, FrontFault, StreamLine};
 use acq_host::Host;
 use acq_link::Sink;
 use acq_rounds::{Gate, Last, Past, Talk};
-use mio::net::{TcpStream, UnixStream};
+use mio::net::TcpStream;
 use std::alloc::Global;
 use std::fs::Files;
 use std::time;
@@ -30,7 +31,9 @@ use std::time::Duration;
 pub(crate) struct Arrivals<'s, 'r, 'a, T, W, F> {
     places: OpenPlaces<'s, 'r, 'a, T, W, F>,
     time: &'r RoundTime,
-    controls: Controls<UnixStream>,
+    /// The memory for messages that are kept for a gateway, where one may connect.
+    keeper: Option<Global>,
+    controls: Controls<ControlStream>,
     past: Past,
     /// How many came.
     given: u64,
@@ -43,7 +46,7 @@ pub(crate) struct Arrivals<'s, 'r, 'a, T, W, F> {
 pub(crate) struct Departed {
     pub(crate) past: Past,
     pub(crate) given: Given,
-    pub(crate) controls: Controls<UnixStream>,
+    pub(crate) controls: Controls<ControlStream>,
     pub(crate) has_failed: bool,
 }
 
@@ -61,16 +64,18 @@ impl<'s, 'r, 'a, T: time::Clock + Files, W: LogTarget + Drop, F: Sink> Arrivals<
         server: &'s mut TcpServer<'a, T, W>,
         faults: &'s mut F,
         time: &'r RoundTime,
-        controls: Controls<UnixStream>,
+        controls: Controls<ControlStream>,
         count: u64,
     ) -> Arrivals<'s, 'r, 'a, T, W, F>
         ensures ended { ended_at result ≡ [] }
         ensures given { given_at result ≡ 0 }
         ensures controls { controls_at result ≡ aside_of controls }
     {
+        let keeper = server.gateway.is_some().then_some(alloc);
         Arrivals {
             places: OpenPlaces::new(alloc, server, faults, time, count),
             time,
+            keeper,
             controls,
             past: Past::new(),
             given: 0,
@@ -87,11 +92,13 @@ impl<'s, 'r, 'a, T: time::Clock + Files, W: LogTarget + Drop, F: Sink> Arrivals<
         let Arrivals {
             mut places,
             time: _,
+            keeper: _,
             mut controls,
             past,
             given,
             has_stopped: _,
         } = self;
+        places.close_gateway();
         places.end(&mut controls);
         Departed {
             past,
@@ -138,7 +145,8 @@ impl<'s, 'r, 'a, T: time::Clock + Files, W: LogTarget + Drop, F: Sink> Gate<
         }
         let (name, stream) = self.places.next(self.given)?;
         self.given += 1;
-        Some((StreamLine::new(stream), TerminalTalk::new(name, self.time)))
+        let talk = TerminalTalk::new(name, self.time, self.keeper);
+        Some((StreamLine::new(stream), talk))
     }
 
     fn between<B: Book + Drop, C: Clock>(

@@ -9,4 +9,6 @@ pub(crate) enum ConnectionName {
     Terminal(u64, SocketAddr),
     /// One at the control socket.
     Control(u64),
+    /// One of a gateway to issuers.
+    Gateway(u64),
 }

@@ -10,6 +10,7 @@ ghost use Rattle.acq_rounds.specs.Runs.{OthersGoOn};
 ghost use Rattle.acq_rounds.specs.Taking.{TellsFault};
 ghost use Rattle.acq_tcp.specs.Rounds.{going_on};
 
+use crate::control_stream::ControlStream;
 use crate::control_time::ControlTime;
 use crate::ending::Ending;
 use crate::journal::Journal;
@@ -24,7 +25,7 @@ use acq_faults::{Fault, end_connection};
 use acq_front::{Clock, FrontFault};
 use acq_host::Host;
 use acq_link::Sink;
-use mio::net::{UnixListener, UnixStream};
+use mio::net::UnixListener;
 use mio::{Interest, Registry, Token};
 use std::alloc::Global;
 use std::io::{self, ErrorKind};
@@ -34,8 +35,8 @@ use std::time::{Duration, Instant};
 /// How many control connections are served at once.
 pub(crate) const CONTROLS: usize = 8;
 
-/// Control connections that come in at a socket's file and are served at once, each in its turn. What
-/// passes over them is in `Controls`, in the same places.
+/// Control connections that come in at a socket's file and are served at once, each in its turn.
+/// What passes over them is in `Controls`, in the same places.
 #[derive(Drop)]
 pub(crate) struct ControlServer {
     listener: UnixListener,
@@ -93,7 +94,7 @@ impl ControlServer {
     }
 
     /// Whether one is about to ask for figures.
-    pub(crate) fn asks_figures(&self, controls: &Controls<UnixStream>) -> bool {
+    pub(crate) fn asks_figures(&self, controls: &Controls<ControlStream>) -> bool {
         for (at, place) in self.places.iter().enumerate() {
             if let Some(connection) = place {
                 if connection.is_ready()
@@ -119,7 +120,7 @@ impl ControlServer {
     /// Cuts off those that are there, since the host ends.
     pub(crate) fn cut_off<T: time::Clock, W: LogTarget, F: Sink>(
         &mut self,
-        controls: &mut Controls<UnixStream>,
+        controls: &mut Controls<ControlStream>,
         journal: &mut Journal<'_, T, W>,
         faults: &mut F,
     )
@@ -142,7 +143,7 @@ impl ControlServer {
     /// and tried again after a pause.
     pub(crate) fn admit<T: time::Clock, W: LogTarget, F: Sink>(
         &mut self,
-        controls: &mut Controls<UnixStream>,
+        controls: &mut Controls<ControlStream>,
         registry: &Registry,
         journal: &mut Journal<'_, T, W>,
         now: Option<Instant>,
@@ -154,21 +155,37 @@ impl ControlServer {
             if !self.may_come || !self.pause_left(now).is_zero() {
                 return;
             }
-            if let Some(None) = self.places.get(place) {
-                self.refused = None;
-                let filled = self.fill(controls, registry, journal, place, now);
-                if filled.is_err() {
-                    self.refused = now;
-                    let _ = end_connection(Err(FrontFault::Read), faults);
-                }
-            }
+            self.admit_at(controls, registry, journal, place, now, faults);
+        }
+    }
+
+    /// Takes in the next connection that came, if one did, where this place is free.
+    fn admit_at<T: time::Clock, W: LogTarget, F: Sink>(
+        &mut self,
+        controls: &mut Controls<ControlStream>,
+        registry: &Registry,
+        journal: &mut Journal<'_, T, W>,
+        place: usize,
+        now: Option<Instant>,
+        faults: &mut F,
+    )
+        ensures stays { Stays (aside_of controls.old) (aside_of controls.new) }
+    {
+        let Some(None) = self.places.get(place) else {
+            return;
+        };
+        self.refused = None;
+        let filled = self.fill(controls, registry, journal, place, now);
+        if filled.is_err() {
+            self.refused = now;
+            let _ = end_connection(Err(FrontFault::Read), faults);
         }
     }
 
     /// Gives a place to the next connection that came, if one did.
     fn fill<T: time::Clock, W: LogTarget>(
         &mut self,
-        controls: &mut Controls<UnixStream>,
+        controls: &mut Controls<ControlStream>,
         registry: &Registry,
         journal: &mut Journal<'_, T, W>,
         place: usize,
@@ -189,7 +206,7 @@ impl ControlServer {
             Token(self.first.saturating_add(place)),
             Interest::READABLE | Interest::WRITABLE,
         )?;
-        if controls.admit(place, stream) {
+        if controls.admit(place, ControlStream::Socket(stream)) {
             if let Some(empty) = self.places.get_mut(place) {
                 *empty = Some(OpenControl::new(journal.control(), now));
             }
@@ -225,7 +242,7 @@ impl ControlServer {
     /// Gives each connection that is ready a round.
     pub(crate) fn give_rounds<B: Book + Drop, C: Clock, T: time::Clock, W: LogTarget, F: Sink>(
         &mut self,
-        controls: &mut Controls<UnixStream>,
+        controls: &mut Controls<ControlStream>,
         host: &mut Host<B>,
         clock: &mut C,
         journal: &mut Journal<'_, T, W>,
@@ -249,11 +266,11 @@ impl ControlServer {
         Ok(())
     }
 
-    /// Gives the connection in a place a round, notes whether it asked that the host ends, and frees
-    /// the place at its end.
+    /// Gives the connection in a place a round, notes whether it asked that the host ends, and
+    /// frees the place at its end.
     fn give_round<B: Book + Drop, C: Clock, T: time::Clock, W: LogTarget, F: Sink>(
         &mut self,
-        controls: &mut Controls<UnixStream>,
+        controls: &mut Controls<ControlStream>,
         place: usize,
         host: &mut Host<B>,
         clock: &mut C,
@@ -302,7 +319,10 @@ impl ControlServer {
 
 /// Ends a connection: want of memory and the store's fault end the program too, and any other fault
 /// is a line of `faults`.
-fn end_control<F: Sink>(ended: Result<(), FrontFault>, faults: &mut F) -> Result<(), BookFault>
+pub(crate) fn end_control<F: Sink>(
+    ended: Result<(), FrontFault>,
+    faults: &mut F,
+) -> Result<(), BookFault>
     ensures { result ≡ going_on ended }
 {
     match ended {
@@ -325,7 +345,7 @@ fn ending_of(connection: &OpenControl) -> Ending {
 }
 
 /// The word that the line begins with which the connection in a place may take next.
-fn next_word(controls: &Controls<UnixStream>, place: usize) -> &'static str {
+fn next_word(controls: &Controls<ControlStream>, place: usize) -> &'static str {
     match controls.in_place(place) {
         Some(exchange) => line_word(exchange.front()),
         None => line_word(&[]),
@@ -334,7 +354,7 @@ fn next_word(controls: &Controls<UnixStream>, place: usize) -> &'static str {
 
 /// What it is that the host cuts off the connection in a place: an answer wasn't written whole, or
 /// it was read in vain.
-fn cut_off(controls: &Controls<UnixStream>, place: usize) -> FrontFault {
+fn cut_off(controls: &Controls<ControlStream>, place: usize) -> FrontFault {
     match controls.in_place(place) {
         Some(exchange) if exchange.is_answering() => FrontFault::Write(exchange.gone()),
         _ => FrontFault::Read,
@@ -353,7 +373,7 @@ impl NextLine {
     /// That of a round that begins now.
     fn of<T: time::Clock, W: LogTarget>(
         connection: &OpenControl,
-        controls: &Controls<UnixStream>,
+        controls: &Controls<ControlStream>,
         place: usize,
         journal: &Journal<'_, T, W>,
     ) -> NextLine {
@@ -372,7 +392,7 @@ impl NextLine {
     fn note<T: time::Clock, W: LogTarget>(
         &self,
         connection: &OpenControl,
-        controls: &Controls<UnixStream>,
+        controls: &Controls<ControlStream>,
         place: usize,
         journal: &mut Journal<'_, T, W>,
     ) {

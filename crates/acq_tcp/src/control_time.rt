@@ -12,3 +12,16 @@ pub(crate) struct ControlTime {
     pub(crate) now: Option<Instant>,
     pub(crate) limits: TimeLimits,
 }
+
+impl ControlTime {
+    /// The same, where one may be silent for ever.
+    pub(crate) fn without_end(self) -> ControlTime {
+        ControlTime {
+            limits: TimeLimits {
+                idle: None,
+                ..self.limits
+            },
+            ..self
+        }
+    }
+}

@@ -226,6 +226,20 @@ impl<W: LogTarget> HostLog<W> {
         self.end_line();
     }
 
+    /// A gateway asked for the rows behind more than the book has, which are so many.
+    pub(crate) fn rows_missing<T: time::Clock>(
+        &mut self,
+        clock: &T,
+        name: ConnectionName,
+        rows: u64,
+    ) {
+        self.begin_line(clock, "rows-missing");
+        self.put_connection(name);
+        self.line.put_number("fault", 65);
+        self.line.put_number("rows", rows);
+        self.end_line();
+    }
+
     /// A control connection gets this answer to a line that begins with this word, for which the
     /// host took so long.
     pub(crate) fn answered<T: time::Clock>(
@@ -344,6 +358,11 @@ impl<W: LogTarget> HostLog<W> {
                     self.line.put("connection", text.as_bytes());
                 }
             }
+            ConnectionName::Gateway(number) => {
+                if let Ok(text) = format!(in self.alloc; "gateway-{number}") {
+                    self.line.put("connection", text.as_bytes());
+                }
+            }
         }
     }
 
@@ -459,7 +478,7 @@ fn reason_of(fault: FrontFault, name: ConnectionName, ending: Ending) -> &'stati
         return "the host ended";
     }
     let is_late = ending == Ending::Late;
-    let is_control = matches!(name, ConnectionName::Control(_));
+    let is_control = !matches!(name, ConnectionName::Terminal(..));
     match fault {
         FrontFault::Memory => "memory ran out",
         FrontFault::Store => "the store failed",

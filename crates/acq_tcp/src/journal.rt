@@ -43,8 +43,9 @@ pub(crate) struct Journal<'a, T, W> {
     first_waiting: FirstSeen,
     /// How many bytes the book's files had when figures were last asked for.
     book_sizes: BookSizes,
-    /// How many control connections were taken.
+    /// How many control connections were taken, and how many of gateways to issuers.
     controls: u64,
+    gateways: u64,
 }
 
 impl<'a, T: time::Clock, W: LogTarget> Journal<'a, T, W> {
@@ -61,6 +62,7 @@ impl<'a, T: time::Clock, W: LogTarget> Journal<'a, T, W> {
                 wal: None,
             },
             controls: 0,
+            gateways: 0,
         }
     }
 
@@ -166,11 +168,25 @@ impl<'a, T: time::Clock, W: LogTarget> Journal<'a, T, W> {
         self.opened(name)
     }
 
+    /// Names a gateway's connection.
+    pub(crate) fn gateway(&mut self) -> ConnectionName {
+        self.gateways = self.gateways.saturating_add(1);
+        let name = ConnectionName::Gateway(self.gateways);
+        self.opened(name)
+    }
+
     fn opened(&mut self, name: ConnectionName) -> ConnectionName {
         if let Some(log) = &mut self.log {
             log.opened(self.time, name);
         }
         name
+    }
+
+    /// A gateway asked for the rows behind more than the book has, which are so many.
+    pub(crate) fn rows_missing(&mut self, name: ConnectionName, rows: u64) {
+        if let Some(log) = &mut self.log {
+            log.rows_missing(self.time, name, rows);
+        }
     }
 
     /// A connection that came from there isn't served, for this reason; where it has no header this

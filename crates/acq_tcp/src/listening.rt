@@ -7,9 +7,14 @@ ghost use Rattle.acq_faults.specs.Faults.{IsOfListening};
 
 use crate::book_files::BookFiles;
 use crate::control_server::{CONTROLS, ControlServer};
+use crate::control_stream::ControlStream;
+use crate::gateway_server::GatewayServer;
+use crate::sockets::Sockets;
+use acq_book::BookFault;
 use acq_controls::Controls;
 use acq_faults::{Fault, ListenOptions};
-use mio::net::{TcpListener, UnixListener, UnixStream};
+use acq_gateway::{DeskStream, GatewayDesk};
+use mio::net::{TcpListener, UnixListener};
 use mio::{Events, Interest, Poll, Token};
 use std::alloc::Global;
 use std::fs::Files;
@@ -24,8 +29,14 @@ const CONTROL: usize = 1;
 
 const FIRST_CONTROL: usize = 2;
 
+/// That of the listener for gateways to issuers; that of their connection stands behind it.
+pub(crate) const GATEWAY: usize = FIRST_CONTROL + CONTROLS;
+
 /// The token of a terminal's connection whose number is 0; those of the others stand behind it.
-pub(crate) const FIRST_TERMINAL: usize = FIRST_CONTROL + CONTROLS;
+pub(crate) const FIRST_TERMINAL: usize = GATEWAY + 2;
+
+/// The place of the host's own control lines, behind those of control connections.
+pub(crate) const OWN_LINES: usize = CONTROLS;
 
 /// What listens for connections. The log isn't made with it: a proof goes over all that a function
 /// lets go at each of its early ends, and here are five.
@@ -37,18 +48,19 @@ pub(crate) struct Listening {
     /// Room for the numbers of the connections that one wait may wake.
     pub(crate) woken: Vec<u64>,
     pub(crate) control: Option<ControlServer>,
-    pub(crate) controls: Controls<UnixStream>,
+    pub(crate) controls: Controls<ControlStream>,
+    pub(crate) gateway: Option<GatewayServer>,
     pub(crate) book_files: BookFiles,
 }
 
 impl Listening {
-    /// Listens at the address and the port that are asked for, and beside them to `control`.
+    /// Listens at the address and the port that are asked for, and beside them at these sockets.
     pub(crate) fn begin<N: Net, T: Files>(
         net: &N,
         files: &T,
         alloc: Global,
         asked: &ListenOptions,
-        control: Option<UnixListener>,
+        sockets: Sockets,
     ) -> Result<Listening, Fault>
         ensures fault { IfErr result IsOfListening }
         ensures none_came { IfOk result (λ it. HadNone (aside_of it.controls)) }
@@ -57,24 +69,53 @@ impl Listening {
         let book_files = BookFiles::at(files, alloc, asked.path.as_str())?;
         let events = Events::with_capacity(alloc, at_once)?;
         let woken = Vec::with_capacity(alloc, at_once)?;
-        let Ok(controls) = Controls::new(alloc, CONTROLS) else {
+        let Ok(controls) = controls_at(alloc, &sockets.desk) else {
             return Err(Fault::Memory);
         };
         let Ok((listener, poll)) = listener_at(net, asked.endpoint) else {
             return Err(Fault::Read);
         };
-        match control_at(alloc, control, &poll) {
-            Ok(control) => Ok(Listening {
+        let control = control_at(alloc, sockets.control, &poll)?;
+        match gateway_at(sockets.gateway, &poll, sockets.desk) {
+            Ok(gateway) => Ok(Listening {
                 listener,
                 poll,
                 events,
                 woken,
                 control,
                 controls,
+                gateway,
                 book_files,
             }),
             Err(fault) => Err(fault),
         }
+    }
+}
+
+/// The places of control connections, and that of the host's own control lines.
+fn controls_at(alloc: Global, desk: &GatewayDesk) -> Result<Controls<ControlStream>, BookFault>
+    ensures { IfOk result (λ controls. HadNone (aside_of controls)) }
+{
+    let mut controls = Controls::new(alloc, CONTROLS + 1)?;
+    let own = ControlStream::Desk(DeskStream::new(alloc, desk.share()?));
+    controls.admit(OWN_LINES, own);
+    Ok(controls)
+}
+
+/// Gateways to a listener, if there is one.
+fn gateway_at(
+    listener: Option<UnixListener>,
+    poll: &Poll,
+    desk: GatewayDesk,
+) -> Result<Option<GatewayServer>, Fault>
+    ensures { IfErr result IsOfListening }
+{
+    let Some(listener) = listener else {
+        return Ok(None);
+    };
+    match GatewayServer::new(listener, poll.registry(), GATEWAY, desk) {
+        Ok(gateway) => Ok(Some(gateway)),
+        Err(fault) => Err(fault),
     }
 }
 

@@ -9,6 +9,7 @@ ghost use Rattle.acq_rounds.specs.Runs.{OthersGoOn};
 ghost use Rattle.acq_tcp.specs.Rounds.{IsNotStores};
 
 use crate::connection_name::ConnectionName;
+use crate::control_stream::ControlStream;
 use crate::control_time::ControlTime;
 use crate::time_limits::{TimeLimits, left_of};
 use acq_book::Book;
@@ -17,7 +18,6 @@ use acq_controls::Controls;
 use acq_front::{Clock, FrontFault};
 use acq_host::Host;
 use acq_status::Serving;
-use mio::net::UnixStream;
 use std::mem;
 use std::time::{Duration, Instant};
 
@@ -89,7 +89,7 @@ impl OpenControl {
     /// ended, if it did. One that is silent too long ended with a failed read.
     pub(crate) fn give_round<B: Book + Drop, C: Clock>(
         &mut self,
-        controls: &mut Controls<UnixStream>,
+        controls: &mut Controls<ControlStream>,
         place: usize,
         host: &mut Host<B>,
         clock: &mut C,

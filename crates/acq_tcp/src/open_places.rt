@@ -7,8 +7,10 @@ ghost use Rattle.acq_front.specs.Stops.{left_of};
 ghost use Rattle.acq_rounds.specs.Reaching.{ReachesBy};
 ghost use Rattle.acq_rounds.specs.Runs.{OthersGoOn};
 ghost use Rattle.acq_rounds.specs.Taking.{TellsFault};
+ghost use Rattle.acq_tcp.specs.Rounds.{Looked};
 
 use crate::connection_name::ConnectionName;
+use crate::control_stream::ControlStream;
 use crate::control_time::ControlTime;
 use crate::ending::Ending;
 use crate::first_bytes::FirstBytes;
@@ -31,8 +33,8 @@ use acq_faults::{end_connection, write_fault_line};
 use acq_front::{Clock, FrontFault};
 use acq_host::Host;
 use acq_link::Sink;
-use acq_rounds::Talk;
-use mio::net::{TcpStream, UnixStream};
+use acq_rounds::{Stage, Talk};
+use mio::net::TcpStream;
 use std::alloc::Global;
 use std::fs::Files;
 use std::net::SocketAddr;
@@ -100,12 +102,17 @@ impl<'s, 'r, 'a, T: time::Clock + Files, W: LogTarget + Drop, F: Sink> OpenPlace
     }
 
     /// Cuts off the control connections, where the host ends since its time is over.
-    pub(crate) fn end(&mut self, controls: &mut Controls<UnixStream>)
+    pub(crate) fn end(&mut self, controls: &mut Controls<ControlStream>)
         ensures stays { Stays (aside_of controls.old) (aside_of controls.new) }
     {
         if self.is_over {
             self.server.cut_off_controls(controls, self.faults);
         }
+    }
+
+    /// Parts with the gateway, since the host ends.
+    pub(crate) fn close_gateway(&mut self) {
+        self.server.close_gateway();
     }
 
     /// Waits until there is something to do, for this time at most, if one is given, and not at all
@@ -115,7 +122,7 @@ impl<'s, 'r, 'a, T: time::Clock + Files, W: LogTarget + Drop, F: Sink> OpenPlace
         if self.is_over || self.is_done() {
             return false;
         }
-        let longest = if has_already || begins_to_stop || self.server.newcomers.has_ready() {
+        let longest = if has_already || begins_to_stop || self.has_ready() {
             Some(Duration::ZERO)
         } else {
             shorter(self.longest_wait(), at_most)
@@ -130,6 +137,11 @@ impl<'s, 'r, 'a, T: time::Clock + Files, W: LogTarget + Drop, F: Sink> OpenPlace
         self.read_away(now);
         self.end_late_newcomers(now);
         true
+    }
+
+    /// Whether a newcomer or a gateway has something to do, though nothing comes.
+    fn has_ready(&self) -> bool {
+        self.server.newcomers.has_ready() || self.server.has_gateway_ready()
     }
 
     /// Notes that the host was asked to end, if it was, and whether what is there is cut off.
@@ -397,11 +409,12 @@ impl<'s, 'r, 'a, T: time::Clock + Files, W: LogTarget + Drop, F: Sink> OpenPlace
         }
     }
 
-    /// Looks at the book where figures are to be told, and gives control connections a round.
+    /// Looks at the book where figures are to be told, and gives control connections a round, and
+    /// the host's own control lines.
     pub(crate) fn between<B: Book + Drop, C: Clock>(
         &mut self,
         alloc: Global,
-        controls: &mut Controls<UnixStream>,
+        controls: &mut Controls<ControlStream>,
         host: &mut Host<B>,
         clock: &mut C,
     ) -> Result<(), BookFault>
@@ -421,9 +434,31 @@ impl<'s, 'r, 'a, T: time::Clock + Files, W: LogTarget + Drop, F: Sink> OpenPlace
             now: self.time.get(),
             limits: self.server.limits,
         };
-        self.server.look_at_book(alloc, controls, host, time.now)?;
+        self.look(alloc, controls, host, clock)?;
         self.server
-            .give_control_rounds(controls, host, clock, time, self.faults)
+            .give_rounds(controls, host, clock, time, self.faults)
+    }
+
+    /// Looks at the book where figures are to be told, and for a gateway.
+    fn look<B: Book + Drop, C: Clock>(
+        &mut self,
+        alloc: Global,
+        controls: &Controls<ControlStream>,
+        host: &mut Host<B>,
+        clock: &mut C,
+    ) -> Result<(), BookFault>
+        ensures looked { B.is_honest host.new → B.is_open host.old
+            → Looked (B.tables host.old) (left_of B.Book host.new) }
+        ensures stays_open { B.is_honest host.new → B.is_open host.old
+            → OnOk result (B.is_open host.new) }
+        ensures was_honest { B.is_honest host.new → B.is_honest host.old }
+        ensures given_later { (m : ℕ) → C.may_give clock.new m → C.may_give clock.old m }
+        ensures store { TellsFault result (B.failures host.old) (B.failures host.new)
+            (B.is_honest host.new → B.is_open host.old → ⊥) }
+    {
+        let now = self.time.get();
+        self.server.look_at_book(alloc, controls, host, now)?;
+        self.server.tell_gateway(alloc, host, clock, self.faults)
     }
 
     /// Whether the open connections are looked at in this round.
@@ -466,6 +501,7 @@ impl<'s, 'r, 'a, T: time::Clock + Files, W: LogTarget + Drop, F: Sink> OpenPlace
     /// A turn of this connection was taken: its reply is about to be written, or it gets none, or
     /// its issuer answers later.
     pub(crate) fn said(&mut self, place: &TerminalPlace<'r>) {
+        self.note_turn(place);
         let (talk, now) = (place.talk(), self.time.get());
         let frame = talk.unsent();
         if !frame.is_empty() {
@@ -483,6 +519,19 @@ impl<'s, 'r, 'a, T: time::Clock + Files, W: LogTarget + Drop, F: Sink> OpenPlace
             self.server.journal.replied(talk.name(), frame, held, now);
         } else if let Some(message) = talk.unanswered() {
             self.server.journal.unanswered(talk.name(), message, now);
+        }
+    }
+
+    /// Notes for a gateway that a turn was taken, and the message whose issuer is asked.
+    fn note_turn(&mut self, place: &TerminalPlace<'r>) {
+        let Some(gateway) = &mut self.server.gateway else {
+            return;
+        };
+        gateway.note_news();
+        if let Stage::Asking(query) = place.stage() {
+            if let Some(message) = place.talk().take_asking() {
+                gateway.note_message(query, message);
+            }
         }
     }
 

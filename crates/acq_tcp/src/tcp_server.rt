@@ -15,15 +15,20 @@ use crate::addresses::Addresses;
 use crate::arrivals::Arrivals;
 use crate::book_files::BookFiles;
 use crate::connection_name::ConnectionName;
-use crate::control_server::ControlServer;
+use crate::control_server::{ControlServer, end_control};
+use crate::control_stream::ControlStream;
 use crate::control_time::ControlTime;
+use crate::ending::Ending;
+use crate::gateway_server::GatewayServer;
 use crate::had::Had;
 use crate::host_log::HostLog;
 use crate::journal::Journal;
-use crate::listening::{FIRST_TERMINAL, LISTENER, Listening};
+use crate::listening::{FIRST_TERMINAL, GATEWAY, LISTENER, Listening, OWN_LINES};
 use crate::log_target::LogTarget;
 use crate::newcomers::Newcomers;
+use crate::open_control::OpenControl;
 use crate::round_time::RoundTime;
+use crate::sockets::Sockets;
 use crate::tcp_connections::PAUSE;
 use crate::time_limits::{TimeLimits, left_of};
 use crate::timed_issuer::TimedIssuer;
@@ -35,7 +40,7 @@ use acq_host::Host;
 use acq_link::Sink;
 use acq_reports::ReportFault;
 use acq_rounds::{Past, serve};
-use mio::net::{TcpListener, TcpStream, UnixListener, UnixStream};
+use mio::net::{TcpListener, TcpStream};
 use mio::{Events, Interest, Poll, Token};
 use std::alloc::Global;
 use std::fs::Files;
@@ -43,6 +48,9 @@ use std::io::ErrorKind;
 use std::net::{Net, SocketAddr};
 use std::time::{Duration, Instant};
 use std::{io, mem, time};
+
+/// How many rounds the host's own control lines get at once: for a line a read, a turn and a write.
+const MOST_OWN_ROUNDS: u32 = 4096;
 
 /// Connections that come in at a port and are served at once, in rounds: each reads what came and
 /// has a message taken of it, so that none waits for another one's bytes.
@@ -71,7 +79,10 @@ pub struct TcpServer<'a, T, W> {
     pub(crate) addresses: Addresses,
     /// Control connections, where they can come, and what passes over them.
     pub(crate) control: Option<ControlServer>,
-    pub(crate) controls: Controls<UnixStream>,
+    pub(crate) controls: Controls<ControlStream>,
+    /// A gateway to issuers, where one can come, and the host's own control lines.
+    pub(crate) gateway: Option<GatewayServer>,
+    own_lines: OpenControl,
     /// When the host was asked to end, where that time is known.
     pub(crate) stopping: Option<Instant>,
     book_files: BookFiles,
@@ -86,19 +97,19 @@ pub struct TcpServer<'a, T, W> {
 impl<'a, T: time::Clock + Files, W: LogTarget + Drop> TcpServer<'a, T, W> {
     /// Listens at the address and the port that are asked for, for so many connections at once. One
     /// that takes longer than its patience lasts is closed. Beside them control connections come to
-    /// `control`. What is served is told to the log, where there is one.
+    /// these sockets, and gateways. What is served is told to the log, where there is one.
     pub fn listen<N: Net>(
         net: &N,
         time: &'a T,
         alloc: Global,
         asked: &ListenOptions,
-        control: Option<UnixListener>,
+        sockets: Sockets,
         log: Option<HostLog<W>>,
     ) -> Result<TcpServer<'a, T, W>, Fault>
         ensures fault { IfErr result IsOfListening }
         ensures none_came { IfOk result (λ server. HadNone (controls_by server)) }
     {
-        match Listening::begin(net, time, alloc, asked, control) {
+        match Listening::begin(net, time, alloc, asked, sockets) {
             Ok(listening) => Ok(TcpServer::new(
                 alloc,
                 listening,
@@ -136,6 +147,8 @@ impl<'a, T: time::Clock + Files, W: LogTarget + Drop> TcpServer<'a, T, W> {
             addresses: Addresses::new(alloc, asked.from_one_address),
             control: listening.control,
             controls: listening.controls,
+            gateway: listening.gateway,
+            own_lines: OpenControl::new(ConnectionName::Control(0), None),
             stopping: None,
             book_files: listening.book_files,
             has_looked: false,
@@ -242,6 +255,10 @@ impl<'a, T: time::Clock + Files, W: LogTarget + Drop> TcpServer<'a, T, W> {
             } else if let Some(number) = token.checked_sub(FIRST_TERMINAL) {
                 // There is room for as many as there are events.
                 let _ = self.woken.push(number as u64);
+            } else if token >= GATEWAY {
+                if let Some(gateway) = &mut self.gateway {
+                    gateway.make_ready(token);
+                }
             } else if let Some(control) = &mut self.control {
                 control.make_ready(token);
             }
@@ -266,7 +283,8 @@ impl<'a, T: time::Clock + Files, W: LogTarget + Drop> TcpServer<'a, T, W> {
         }
     }
 
-    /// Whether something that is said to a control connection is still to be written, or to be made.
+    /// Whether something that is said to a control connection is still to be written, or to be
+    /// made.
     pub(crate) fn is_answering(&self) -> bool {
         match &self.control {
             Some(control) => control.is_answering(),
@@ -277,7 +295,7 @@ impl<'a, T: time::Clock + Files, W: LogTarget + Drop> TcpServer<'a, T, W> {
     /// Cuts off the control connections, since the host ends.
     pub(crate) fn cut_off_controls<F: Sink>(
         &mut self,
-        controls: &mut Controls<UnixStream>,
+        controls: &mut Controls<ControlStream>,
         faults: &mut F,
     )
         ensures stays { Stays (aside_of controls.old) (aside_of controls.new) }
@@ -287,12 +305,19 @@ impl<'a, T: time::Clock + Files, W: LogTarget + Drop> TcpServer<'a, T, W> {
         }
     }
 
+    /// Parts with the gateway, since the host ends.
+    pub(crate) fn close_gateway(&mut self) {
+        if let Some(gateway) = &mut self.gateway {
+            gateway.close(&Ok(()), Ending::Stopped, &mut self.journal);
+        }
+    }
+
     /// Looks which request waits the longest, and how many bytes the book's files have, at first
     /// and where figures are about to be asked for.
     pub(crate) fn look_at_book<B: Book + Drop>(
         &mut self,
         alloc: Global,
-        controls: &Controls<UnixStream>,
+        controls: &Controls<ControlStream>,
         host: &mut Host<B>,
         now: Option<Instant>,
     ) -> Result<(), BookFault>
@@ -318,10 +343,34 @@ impl<'a, T: time::Clock + Files, W: LogTarget + Drop> TcpServer<'a, T, W> {
         }
     }
 
-    /// Takes in the control connections that came, and gives each that is ready a round.
-    pub(crate) fn give_control_rounds<B: Book + Drop, C: Clock, F: Sink>(
+    /// Gives control connections a round, and the host's own control lines.
+    pub(crate) fn give_rounds<B: Book + Drop, C: Clock, F: Sink>(
         &mut self,
-        controls: &mut Controls<UnixStream>,
+        controls: &mut Controls<ControlStream>,
+        host: &mut Host<B>,
+        clock: &mut C,
+        time: ControlTime,
+        faults: &mut F,
+    ) -> Result<(), BookFault>
+        ensures reaches { B.is_honest host.new → B.is_open host.old
+            → ReachesBy (B.tables host.old) (left_of B.Book host.new)
+            (OthersGoOn ControlsFollow (B.tables host.old)
+            (aside_of controls.old) (aside_of controls.new)) result }
+        ensures stays_open { B.is_honest host.new → B.is_open host.old
+            → OnOk result (B.is_open host.new) }
+        ensures was_honest { B.is_honest host.new → B.is_honest host.old }
+        ensures given_later { (m : ℕ) → C.may_give clock.new m → C.may_give clock.old m }
+        ensures store { TellsFault result (B.failures host.old) (B.failures host.new)
+            (B.is_honest host.new → B.is_open host.old → ⊥) }
+    {
+        self.give_control_rounds(controls, host, clock, time, faults)?;
+        self.take_own_lines(controls, host, clock, time, faults)
+    }
+
+    /// Takes in the control connections that came, and gives each that is ready a round.
+    fn give_control_rounds<B: Book + Drop, C: Clock, F: Sink>(
+        &mut self,
+        controls: &mut Controls<ControlStream>,
         host: &mut Host<B>,
         clock: &mut C,
         time: ControlTime,
@@ -344,6 +393,116 @@ impl<'a, T: time::Clock + Files, W: LogTarget + Drop> TcpServer<'a, T, W> {
         let journal = &mut self.journal;
         control.admit(controls, self.poll.registry(), journal, time.now, faults);
         control.give_rounds(controls, host, clock, journal, time, faults)
+    }
+
+    /// Whether a gateway has something to do, though nothing comes.
+    pub(crate) fn has_gateway_ready(&self) -> bool {
+        match &self.gateway {
+            Some(gateway) => gateway.is_ready(),
+            None => false,
+        }
+    }
+
+    /// Takes in what came of a gateway, looks in the book what it is to be told, and tells it.
+    pub(crate) fn tell_gateway<B: Book + Drop, C: Clock, F: Sink>(
+        &mut self,
+        alloc: Global,
+        host: &mut Host<B>,
+        clock: &mut C,
+        faults: &mut F,
+    ) -> Result<(), BookFault>
+        ensures looked { B.is_honest host.new → B.is_open host.old
+            → Looked (B.tables host.old) (left_of B.Book host.new) }
+        ensures stays_open { B.is_honest host.new → B.is_open host.old
+            → OnOk result (B.is_open host.new) }
+        ensures was_honest { B.is_honest host.new → B.is_honest host.old }
+        ensures given_later { (m : ℕ) → C.may_give clock.new m → C.may_give clock.old m }
+        ensures store { TellsFault result (B.failures host.old) (B.failures host.new)
+            (B.is_honest host.new → B.is_open host.old → ⊥) }
+    {
+        let Some(gateway) = &mut self.gateway else {
+            return Ok(());
+        };
+        gateway.take_in(alloc, self.poll.registry(), &mut self.journal, faults);
+        let moment = clock.now();
+        match gateway.tell(host, moment, &mut self.journal, faults) {
+            Ok(()) => Ok(()),
+            Err(fault) => Err(fault),
+        }
+    }
+
+    /// Has the host take its own control lines, which are answers that nobody waits for.
+    fn take_own_lines<B: Book + Drop, C: Clock, F: Sink>(
+        &mut self,
+        controls: &mut Controls<ControlStream>,
+        host: &mut Host<B>,
+        clock: &mut C,
+        time: ControlTime,
+        faults: &mut F,
+    ) -> Result<(), BookFault>
+        ensures reaches { B.is_honest host.new → B.is_open host.old
+            → ReachesBy (B.tables host.old) (left_of B.Book host.new)
+            (OthersGoOn ControlsFollow (B.tables host.old)
+            (aside_of controls.old) (aside_of controls.new)) result }
+        ensures stays_open { B.is_honest host.new → B.is_open host.old
+            → OnOk result (B.is_open host.new) }
+        ensures was_honest { B.is_honest host.new → B.is_honest host.old }
+        ensures given_later { (m : ℕ) → C.may_give clock.new m → C.may_give clock.old m }
+        ensures store { TellsFault result (B.failures host.old) (B.failures host.new)
+            (B.is_honest host.new → B.is_open host.old → ⊥) }
+    {
+        for _ in 0..self.own_rounds() {
+            self.give_own_round(controls, host, clock, time, faults)?;
+        }
+        Ok(())
+    }
+
+    /// How many rounds they get: none, unless there are lines.
+    fn own_rounds(&mut self) -> u32 {
+        let has_lines = match &self.gateway {
+            Some(gateway) => gateway.has_lines(),
+            None => false,
+        };
+        if has_lines {
+            self.own_lines.make_ready();
+        }
+        if self.own_lines.is_ready() {
+            MOST_OWN_ROUNDS
+        } else {
+            0
+        }
+    }
+
+    /// Gives them a round, if there is something to do.
+    fn give_own_round<B: Book + Drop, C: Clock, F: Sink>(
+        &mut self,
+        controls: &mut Controls<ControlStream>,
+        host: &mut Host<B>,
+        clock: &mut C,
+        time: ControlTime,
+        faults: &mut F,
+    ) -> Result<(), BookFault>
+        ensures reaches { B.is_honest host.new → B.is_open host.old
+            → ReachesBy (B.tables host.old) (left_of B.Book host.new)
+            (OthersGoOn ControlsFollow (B.tables host.old)
+            (aside_of controls.old) (aside_of controls.new)) result }
+        ensures stays_open { B.is_honest host.new → B.is_open host.old
+            → OnOk result (B.is_open host.new) }
+        ensures was_honest { B.is_honest host.new → B.is_honest host.old }
+        ensures given_later { (m : ℕ) → C.may_give clock.new m → C.may_give clock.old m }
+        ensures store { TellsFault result (B.failures host.old) (B.failures host.new)
+            (B.is_honest host.new → B.is_open host.old → ⊥) }
+    {
+        let serving = self.journal.serving(time.places, time.now);
+        let time = time.without_end();
+        let ended = self
+            .own_lines
+            .give_round(controls, OWN_LINES, host, clock, serving, time);
+        let Some(ended) = ended else {
+            return Ok(());
+        };
+        controls.part(OWN_LINES);
+        end_control(ended, faults)
     }
 
     /// Tells the log, where there is one, that it listens, and on which business day.

@@ -39,11 +39,19 @@ pub(crate) struct TerminalTalk<'r> {
     standing: Cell<Standing>,
     /// What ends it, where it ends.
     ending: Cell<Ending>,
+    /// The message whose issuer is asked, where it is to be kept for a gateway.
+    asking: Cell<Option<Vec<u8>>>,
+    keeper: Option<Global>,
 }
 
 impl<'r> TerminalTalk<'r> {
-    /// Over a connection of this name that came in the round that is under way.
-    pub(crate) fn new(name: ConnectionName, time: &'r RoundTime) -> TerminalTalk<'r>
+    /// Over a connection of this name that came in the round that is under way. Where there is a
+    /// keeper's memory, the message whose issuer is asked is kept for a gateway.
+    pub(crate) fn new(
+        name: ConnectionName,
+        time: &'r RoundTime,
+        keeper: Option<Global>,
+    ) -> TerminalTalk<'r>
         ensures held { held_in result ≡ [] }
         ensures unsent { unsent_in result ≡ [] }
     {
@@ -57,6 +65,25 @@ impl<'r> TerminalTalk<'r> {
             refused: None,
             standing: Cell::new(Standing::new(time.get())),
             ending: Cell::new(Ending::Own),
+            asking: Cell::new(None),
+            keeper,
+        }
+    }
+
+    /// The message whose issuer is asked, where it was kept; it isn't any more.
+    pub(crate) fn take_asking(&self) -> Option<Vec<u8>> {
+        self.asking.take()
+    }
+
+    /// Keeps the message in front, if it is to be kept and there is memory.
+    fn keep_asking(&mut self)
+        ensures { self.new.conversation ≡ self.old.conversation }
+    {
+        let Some(alloc) = self.keeper else {
+            return;
+        };
+        if let Ok(message) = self.conversation.message(alloc) {
+            self.asking.set(message);
         }
     }
 
@@ -207,6 +234,7 @@ impl Talk for TerminalTalk<'_> {
 
     fn defer(&mut self) {
         self.passes_on();
+        self.keep_asking();
         self.conversation.defer();
     }
 

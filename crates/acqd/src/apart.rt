@@ -8,8 +8,8 @@ use std::os::unix::fs::MetadataExt;
 const STANDARD_ERROR: &str = "-";
 
 /// Whether one file stands at two of the paths: the book's and that of the log beside it, those of
-/// a log for operators, of the control socket and of issuers' answers. Their texts may differ, as
-/// where one is a link.
+/// a log for operators, of the control socket, of issuers' answers and of a gateway's socket. Their
+/// texts may differ, as where one is a link.
 pub(crate) fn names_a_file_twice(rt: &HostRuntime, asked: &ListenOptions) -> bool {
     let beside: Result<String, _> = format!(in rt.alloc(); "{}-wal", asked.path.as_str());
     let files = [
@@ -18,6 +18,7 @@ pub(crate) fn names_a_file_twice(rt: &HostRuntime, asked: &ListenOptions) -> boo
         file_at(rt, log_of(asked)),
         file_at(rt, asked.control.as_deref()),
         file_at(rt, asked.issuers.as_deref()),
+        file_at(rt, asked.gateway.as_deref()),
     ];
     for (place, file) in files.iter().enumerate() {
         if file.is_some() && files[place + 1..].contains(file) {

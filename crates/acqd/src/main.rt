@@ -24,6 +24,7 @@ mod this_machine;
 
 use acq_causes::{Asked, Emptiness, Explained, Signs};
 use acq_commands::{Progress, PromptLines, SystemClock, TerminalProgress};
+use acq_gateway::GatewayDesk;
 use acq_link::{ReadSource, Sink, Source, WriteSink};
 use acq_program::{Machine, command, memory_fault, read_fault, utf8_fault};
 use acq_recall::Lenient;
@@ -100,7 +101,10 @@ fn run_over_files<D: Start, S: Source, K: Sink, F: Sink, P: Progress>(
 ) -> u8
     ensures { result ≤ 3 }
 {
-    let machine = ThisMachine::new(rt, start, signs);
+    let Ok(desk) = GatewayDesk::new(rt.alloc()) else {
+        return memory_fault(faults);
+    };
+    let machine = ThisMachine::new(rt, start, signs, desk);
     run_over_store(rt, machine, input, output, faults, progress)
 }
 

@@ -18,13 +18,14 @@ use acq_ask::Watch;
 use acq_causes::{Lack, Signs};
 use acq_core::{Event, Limit};
 use acq_faults::{Fault, ListenOptions, Patience};
+use acq_gateway::{GatewayDesk, GatewayIssuer};
 use acq_link::{ReadSource, WriteSink};
 use acq_out::read_events;
 use acq_program::Machine;
 use acq_sql::OnceBook;
 use acq_sql_checking::OpeningFault;
 use acq_stand_in::StandIn;
-use acq_tcp::{HostLog, TcpConnections, TcpServer};
+use acq_tcp::{HostLog, Sockets, TcpConnections, TcpServer};
 use day_totals::Day;
 use mio::net::UnixListener;
 use sqlite::{Error, ErrorCode};
@@ -35,7 +36,7 @@ use std::alloc::Global;
 use std::fs::File;
 use std::net::{SocketAddrV4, TcpListener, TcpStream};
 use std::os::unix::net::UnixStream;
-use std::time::Instant;
+use std::time::{Duration, Instant};
 
 /// The machine that the program runs on; `D` says what the book's file holds before it is opened.
 #[derive(Drop)]
@@ -43,19 +44,50 @@ pub struct ThisMachine<'a, D: Start> {
     rt: &'a HostRuntime,
     start: D,
     signs: &'a Signs,
+    /// Where requests lie that a gateway to issuers is asked about.
+    desk: GatewayDesk,
     /// When it was made, if its clock could be read.
     began: Option<Instant>,
 }
 
 impl<'a, D: Start> ThisMachine<'a, D> {
-    /// The machine of this runtime, which gives these signs.
-    pub fn new(rt: &'a HostRuntime, start: D, signs: &'a Signs) -> ThisMachine<'a, D> {
+    /// The machine of this runtime, which gives these signs; a gateway to issuers is asked at this
+    /// desk.
+    pub fn new(
+        rt: &'a HostRuntime,
+        start: D,
+        signs: &'a Signs,
+        desk: GatewayDesk,
+    ) -> ThisMachine<'a, D> {
         let began = Instant::now(rt).ok();
         ThisMachine {
             rt,
             start,
             signs,
+            desk,
             began,
+        }
+    }
+}
+
+impl<'a, D: Start> ThisMachine<'a, D> {
+    /// The sockets that are asked for.
+    fn sockets(&self, asked: &ListenOptions) -> Result<Sockets, Fault>
+        ensures { IfErr result IsOfListening }
+    {
+        let within = Duration::from_secs(asked.patience.gateway_within);
+        self.desk.set_patience(within);
+        let Ok(desk) = self.desk.share() else {
+            return Err(Fault::Memory);
+        };
+        let control = control_asked(self.rt, self.signs, asked)?;
+        match gateway_asked(self.rt, self.signs, asked) {
+            Ok(gateway) => Ok(Sockets {
+                control,
+                gateway,
+                desk,
+            }),
+            Err(fault) => Err(fault),
         }
     }
 }
@@ -64,6 +96,8 @@ impl<'a, D: Start> Machine<OnceBook<FileStore<FileFrom<D>>>> for ThisMachine<'a,
     type Connections = TcpConnections<'a, HostRuntime>;
 
     type Server = TcpServer<'a, HostRuntime, LogOutput<'a>>;
+
+    type Desk = GatewayIssuer;
 
     type Lines = WriteSink<HostLine<'a, UnixStream>>;
 
@@ -151,6 +185,13 @@ impl<'a, D: Start> Machine<OnceBook<FileStore<FileFrom<D>>>> for ThisMachine<'a,
         }
     }
 
+    fn desk(&self) -> Result<GatewayIssuer, Fault> {
+        match self.desk.share() {
+            Ok(desk) => Ok(GatewayIssuer::new(desk)),
+            Err(_) => Err(Fault::Memory),
+        }
+    }
+
     fn serve_at(
         &self,
         alloc: Global,
@@ -162,8 +203,8 @@ impl<'a, D: Start> Machine<OnceBook<FileStore<FileFrom<D>>>> for ThisMachine<'a,
             return Err(Fault::Read);
         }
         let log = log_asked(self.rt, alloc, self.signs, asked)?;
-        let control = control_asked(self.rt, self.signs, asked)?;
-        let listening = TcpServer::listen(self.rt, self.rt, alloc, asked, control, log);
+        let sockets = self.sockets(asked)?;
+        let listening = TcpServer::listen(self.rt, self.rt, alloc, asked, sockets, log);
         if listening.is_err() {
             note_port(self.rt, self.signs, asked.endpoint);
         }
@@ -173,8 +214,10 @@ impl<'a, D: Start> Machine<OnceBook<FileStore<FileFrom<D>>>> for ThisMachine<'a,
     fn end_serving(server: TcpServer<'a, HostRuntime, LogOutput<'a>>, asked: &ListenOptions) {
         let rt = server.clock();
         drop(server);
-        if let Some(path) = &asked.control {
-            remove_socket(rt, path.as_str());
+        for path in [&asked.control, &asked.gateway] {
+            if let Some(path) = path {
+                remove_socket(rt, path.as_str());
+            }
         }
     }
 
@@ -285,6 +328,26 @@ fn control_asked(
         Ok(listener) => Ok(Some(listener)),
         Err(fault) => {
             signs.note(Lack::Control);
+            Err(fault)
+        }
+    }
+}
+
+/// The socket for a gateway to issuers that is asked for, if one is.
+fn gateway_asked(
+    rt: &HostRuntime,
+    signs: &Signs,
+    asked: &ListenOptions,
+) -> Result<Option<UnixListener>, Fault>
+    ensures { IfErr result IsOfListening }
+{
+    let Some(path) = &asked.gateway else {
+        return Ok(None);
+    };
+    match control_socket(rt, path.as_str()) {
+        Ok(listener) => Ok(Some(listener)),
+        Err(fault) => {
+            signs.note(Lack::Gateway);
             Err(fault)
         }
     }

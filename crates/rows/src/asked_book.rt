@@ -198,6 +198,14 @@ impl Book for AskedBook {
         Ok(())
     }
 
+    fn walk_requests_behind<V: Visit<Request>>(
+        &mut self,
+        _rows: u64,
+        _visitor: &mut V,
+    ) -> Result<(), BookFault> {
+        Ok(())
+    }
+
     fn apply(&mut self, change: &Change) -> Result<(), BookFault> {
         self.apply_any(change)
     }

@@ -181,6 +181,14 @@ impl<B: Book + Drop> Book for FailingBook<B> {
         self.book.walk_pending(visitor)
     }
 
+    fn walk_requests_behind<V: Visit<Request>>(
+        &mut self,
+        rows: u64,
+        visitor: &mut V,
+    ) -> Result<(), BookFault> {
+        self.book.walk_requests_behind(rows, visitor)
+    }
+
     fn apply(&mut self, change: &Change) -> Result<(), BookFault> {
         if self.refuses() {
             return Err(BookFault::Memory);

@@ -5,7 +5,7 @@ ghost use Rattle.std.specs.Map.Iter.{deref};
 ghost use Rattle.acq_book.specs.Lookups.{terminal_count_at, range_count_at, used_on_at, pending_at};
 ghost use Rattle.acq_book.specs.Lookups.{waiting_count_at, last_reconciliation_at};
 ghost use Rattle.acq_book.specs.Lookups.{postings_at, postings_above_at, postings_behind_at};
-ghost use Rattle.acq_book.specs.Lookups.{merchants_at, holds_at, waiting_at};
+ghost use Rattle.acq_book.specs.Lookups.{merchants_at, holds_at, waiting_at, requests_behind_at};
 
 use crate::list_tables::ListTables;
 use crate::walks::{in_order_of_names, in_order_of_numbers, in_order_of_references};
@@ -111,5 +111,13 @@ impl ListTables {
         ensures { IfOk result (λ rows. map deref rows.items ≡ waiting_at self.now) }
     {
         self.requests.waiting(self.alloc)
+    }
+
+    /// The requests behind so many rows, in the order in which they came.
+    pub(crate) fn requests_behind(&self, rows: u64) -> Result<Vec<&Request>, AllocError>
+        ensures { IfOk result (λ those.
+            map deref those.items ≡ requests_behind_at self.now rows) }
+    {
+        self.requests.behind(self.alloc, rows)
     }
 }

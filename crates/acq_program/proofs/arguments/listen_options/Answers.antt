@@ -112,6 +112,14 @@ returns-in_err-issuers c =
     rw (p.1, p.2)
     (no_memory (ListenedIs texts) c.in_err-issuers.field-0.0 c.in_err-issuers.ensures.refused)
 
+pub returns-in_err-gateway : goal.returns-in_err-gateway
+returns-in_err-gateway c =
+    let texts = found_texts (found_of c.args.options.now) in
+    let p = err_from_is_err_and c.from_residual-in_err-gateway.result
+    c.from_residual-in_err-gateway.ensures.1 in
+    rw (p.1, p.2)
+    (no_memory (ListenedIs texts) c.in_err-gateway.field-0.0 c.in_err-gateway.ensures.refused)
+
 pub returns-in_err-control : goal.returns-in_err-control
 returns-in_err-control c =
     let texts = found_texts (found_of c.args.options.now) in
@@ -140,6 +148,8 @@ returns c =
       proxy_protocol = c.is_set.result;
       patience = c.in_ok-patience.patience;
       issuers = c.in_ok-issuers.issuers;
+      gateway = c.in_ok-gateway.gateway;
+      end_waiting = c.is_set-2.result;
       moment = c.in_ok-moment.moment;
       control = c.in_ok-control.control;
       log = c.in_ok-log.log;
@@ -165,6 +175,8 @@ returns c =
       refl,
       refl,
       c.in_ok-issuers.ensures.given,
+      c.in_ok-gateway.ensures.given,
+      c.is_set-2.ensures,
       refl,
       refl,
       refl,

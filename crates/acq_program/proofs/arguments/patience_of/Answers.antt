@@ -5,8 +5,8 @@ use Rattle.clap.specs.Words.{found_of}
 use Rattle.acq_faults.specs.declared.patience.Patience.{Patience}
 use Rattle.acq_program.specs.declared.usage_fault.UsageFault.{UsageFault}
 use Rattle.acq_program.specs.Arguments.{IsPatience}
-use Rattle.acq_program.specs.Options.{AnswerWithinIs, FrameWithinIs, IdleIs}
-use Rattle.acq_program.specs.Arguments.{PatienceFor, PatienceUpTo, PatienceWith}
+use Rattle.acq_program.specs.Options.{AnswerWithinIs, FrameWithinIs, GatewayWithinIs, IdleIs}
+use Rattle.acq_program.specs.Arguments.{PatienceBeside, PatienceFor, PatienceUpTo, PatienceWith}
 use Rattle.acq_program.specs.Options.{StopWithinIs}
 use Rattle.acq_program.specs.Options.{found_texts}
 use Rattle.acq_program.proofs.OptionsRead.{first_fails, then_rest}
@@ -61,9 +61,34 @@ returns-in_err-answer_within c =
     c.in_ok-stop_within.stop_within (Err c.in_err-answer_within.field-0.0)
     c.in_ok-stop_within.ensures
     (first_fails (AnswerWithinIs texts)
-    (IsPatience c.in_ok-idle.idle c.in_ok-frame_within.frame_within
+    (PatienceBeside texts c.in_ok-idle.idle c.in_ok-frame_within.frame_within
     c.in_ok-stop_within.stop_within)
     c.in_err-answer_within.field-0.0 c.in_err-answer_within.ensures))))
+
+pub returns-in_err-gateway_within : goal.returns-in_err-gateway_within
+returns-in_err-gateway_within c =
+    let texts = found_texts (found_of c.args.options.now) in
+    let p = err_from_is_err_and c.from_residual-in_err-gateway_within.result
+    c.from_residual-in_err-gateway_within.ensures.1 in
+    rw (p.1, p.2)
+    (then_rest (IdleIs texts) (PatienceFor texts) c.in_ok-idle.idle
+    (Err c.in_err-gateway_within.field-0.0) c.in_ok-idle.ensures
+    (then_rest (FrameWithinIs texts) (PatienceWith texts c.in_ok-idle.idle)
+    c.in_ok-frame_within.frame_within (Err c.in_err-gateway_within.field-0.0)
+    c.in_ok-frame_within.ensures
+    (then_rest (StopWithinIs texts)
+    (PatienceUpTo texts c.in_ok-idle.idle c.in_ok-frame_within.frame_within)
+    c.in_ok-stop_within.stop_within (Err c.in_err-gateway_within.field-0.0)
+    c.in_ok-stop_within.ensures
+    (then_rest (AnswerWithinIs texts)
+    (PatienceBeside texts c.in_ok-idle.idle c.in_ok-frame_within.frame_within
+    c.in_ok-stop_within.stop_within)
+    c.in_ok-answer_within.answer_within (Err c.in_err-gateway_within.field-0.0)
+    c.in_ok-answer_within.ensures
+    (first_fails (GatewayWithinIs texts)
+    (IsPatience c.in_ok-idle.idle c.in_ok-frame_within.frame_within c.in_ok-stop_within.stop_within
+    c.in_ok-answer_within.answer_within)
+    c.in_err-gateway_within.field-0.0 c.in_err-gateway_within.ensures)))))
 
 pub returns : goal.returns
 returns c =
@@ -73,6 +98,7 @@ returns c =
       frame_within = c.in_ok-frame_within.frame_within;
       stop_within = c.in_ok-stop_within.stop_within;
       answer_within = c.in_ok-answer_within.answer_within;
+      gateway_within = c.in_ok-gateway_within.gateway_within;
     }) in
     then_rest (IdleIs texts) (PatienceFor texts) c.in_ok-idle.idle read c.in_ok-idle.ensures
     (then_rest (FrameWithinIs texts) (PatienceWith texts c.in_ok-idle.idle)
@@ -81,7 +107,11 @@ returns c =
     (PatienceUpTo texts c.in_ok-idle.idle c.in_ok-frame_within.frame_within)
     c.in_ok-stop_within.stop_within read c.in_ok-stop_within.ensures
     (then_rest (AnswerWithinIs texts)
-    (IsPatience c.in_ok-idle.idle c.in_ok-frame_within.frame_within
+    (PatienceBeside texts c.in_ok-idle.idle c.in_ok-frame_within.frame_within
     c.in_ok-stop_within.stop_within)
     c.in_ok-answer_within.answer_within read c.in_ok-answer_within.ensures
-    refl)))
+    (then_rest (GatewayWithinIs texts)
+    (IsPatience c.in_ok-idle.idle c.in_ok-frame_within.frame_within c.in_ok-stop_within.stop_within
+    c.in_ok-answer_within.answer_within)
+    c.in_ok-gateway_within.gateway_within read c.in_ok-gateway_within.ensures
+    refl))))

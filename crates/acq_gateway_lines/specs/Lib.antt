@@ -1,0 +1,4 @@
+pub mod Lines
+pub mod Notices
+pub mod Outcomes
+pub mod Slices
