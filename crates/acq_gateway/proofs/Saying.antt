@@ -1,5 +1,5 @@
 -- Words that are said to a gateway, and the lines of rows behind them.
-use Rattle.std.proofs.Common.{◌≡◌, ◌∙◌, ◌++◌, ◌∷◌, ℕ, List, [], IfOk, inl, inr, ⊎_elim}
+use Rattle.std.proofs.Common.{◌≡◌, ◌∙◌, ◌++◌, ◌∷◌, ℕ, List, [], None, IfOk, inl, inr, ⊎_elim}
 use Rattle.std.proofs.Common.{refl, sym, ap, append-nil, append_assoc}
 use Rattle.std.specs.Prelude.{Result, Ok, Err}
 use Rattle.std.specs.List.{concat}
@@ -78,15 +78,15 @@ module _ (t : Tables) (moment : ℕ) where
 
   -- words, and then rows
   tells : (a b c d e : Gateway) → Says t moment a b → MayMiss b c → Begins b c.rows →
-      Says t moment c d → AddsRows t moment d e → Tells t moment a e
-  tells a b c d e one may begins two rows =
+      c.from ≡ None → Says t moment c d → AddsRows t moment d e → Tells t moment a e
+  tells a b c d e one may begins taken two rows =
       let m = missed b c may in
       let first = one.words ++ m.0 in record {
         words = first ++ two.words;
         are = are_both first two.words (are_both one.words m.0 one.are m.1) two.are;
         told = d.rows;
-        begins = ⊎_elim (λ p. inl (two.rows ∙ p ∙ one.rows)) (λ p. inr (two.rows ∙ p ∙ one.from))
-            begins;
+        begins = ⊎_elim (λ p. inl (two.rows ∙ p ∙ one.rows))
+            (λ p. inr (p.0, sym one.from ∙ p.1, two.rows ∙ p.2)) begins;
         lines = rows.0;
         rows = rows.2;
         output = added a.output.items (concat (first ++ two.words)) rows.0
@@ -94,11 +94,13 @@ module _ (t : Tables) (moment : ℕ) where
             (joined a.output.items one.words m.0 one.output m.2) two.output)
             rows.1;
         gone = rows.3 ∙ two.gone ∙ may.0 ∙ one.gone;
+        from = rows.4 ∙ two.from ∙ taken;
       }
 
   -- where they were told
   pub tells_if : (a b c d e : Gateway) (r : Result (Unit {0}) BookFault) → Says t moment a b →
-      MayMiss b c → Begins b c.rows → Says t moment c d →
+      MayMiss b c → Begins b c.rows → c.from ≡ None → Says t moment c d →
       IfOk r (λ done. AddsRows t moment d e) → IfOk r (λ done. Tells t moment a e)
-  tells_if a b c d e (Ok done) one may begins two rows = tells a b c d e one may begins two rows
-  tells_if a b c d e (Err fault) one may begins two rows = rows
+  tells_if a b c d e (Ok done) one may begins taken two rows =
+      tells a b c d e one may begins taken two rows
+  tells_if a b c d e (Err fault) one may begins taken two rows = rows

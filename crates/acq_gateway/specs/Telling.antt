@@ -1,7 +1,7 @@
 -- What a gateway is told as its host looks into the book (own profile): words, and behind them the
 -- lines of the rows behind those that it was told.
-use Rattle.std.specs.Prelude.{◌≡◌, ◌⊎◌, ◌++◌, ℕ, List, [], ◌∷◌, drop, codes}
-use Rattle.std.specs.Prelude.{Option, Some, None}
+use Rattle.std.specs.Prelude.{◌≡◌, ◌⊎◌, ◌++◌, ◌≤◌, ℕ, List, [], ◌∷◌, drop, length}
+use Rattle.std.specs.Prelude.{Option, Some, None, codes}
 use Rattle.std.specs.Fmt.{decimal}
 use Rattle.std.specs.List.{concat}
 use Rattle.day_totals.specs.Digits.{zero_padded}
@@ -20,8 +20,13 @@ use Rattle.acq_gateway.specs.declared.gateway.Gateway.{Gateway}
 abbrev pub unsent_of : Gateway → List ℕ
 unsent_of gateway = drop gateway.gone gateway.output.items
 
+-- so many bytes of what it holds were written, and no more than it holds
+abbrev pub IsHeld : Gateway → Type 0
+IsHeld gateway = gateway.gone ≤ length gateway.output.items
+
 -- it was told no row, asked for none, and nothing is to be written
 pub record IsNew (gateway : Gateway) : Type 0 where
+  pub held : IsHeld gateway
   pub unsent : unsent_of gateway ≡ []
   pub rows : gateway.rows ≡ None
   pub from : gateway.from ≡ None
@@ -80,7 +85,8 @@ MayMiss old new =
 
 -- it goes on behind the rows that it was told, or begins where it asked for
 abbrev pub Begins : Gateway → Option ℕ → Type 0
-Begins old rows = (rows ≡ old.rows) ⊎ (rows ≡ old.from)
+Begins old rows =
+    (rows ≡ old.rows) ⊎ ((asked : ℕ) × (old.from ≡ Some asked) × (rows ≡ Some asked))
 
 module _ (t : Tables) (moment : ℕ) where
   abbrev pub IsOutcome : List ℕ → Type 0
@@ -128,7 +134,7 @@ module _ (t : Tables) (moment : ℕ) where
   abbrev pub AddsRows : Gateway → Gateway → Type 0
   AddsRows old new =
       (text : List ℕ) × (new.output.items ≡ old.output.items ++ text)
-      × TellsRows old.rows new.rows text × (new.gone ≡ old.gone)
+      × TellsRows old.rows new.rows text × (new.gone ≡ old.gone) × (new.from ≡ old.from)
 
   -- what a look adds to what is to be written
   pub record Tells (old new : Gateway) : Type 0 where
@@ -140,3 +146,4 @@ module _ (t : Tables) (moment : ℕ) where
     pub rows : TellsRows told new.rows lines
     pub output : new.output.items ≡ old.output.items ++ (concat words ++ lines)
     pub gone : new.gone ≡ old.gone
+    pub from : new.from ≡ None

@@ -1,10 +1,11 @@
 //! A gateway's connection, without its socket.
 
-ghost use Rattle.std.specs.Prelude.{◌≡◌, ◌++◌, ◌∷◌, ℕ, [], codes, drop, is_ok, IfOk};
+ghost use Rattle.std.specs.Prelude.{◌≡◌, ◌++◌, ◌∷◌, ℕ, [], codes, drop, is_ok, IfOk, None};
 ghost use Rattle.acq_book.specs.Calls.{Looks};
 ghost use Rattle.acq_book.specs.Promise.{CountsFault};
-ghost use Rattle.acq_gateway.specs.Telling.{AddsRows, Begins, IsNew, MayMiss, Says, Stays, Takes};
-ghost use Rattle.acq_gateway.specs.Telling.{Tells, bad_line, missing_line, outcome_line, unsent_of};
+ghost use Rattle.acq_gateway.specs.Telling.{AddsRows, Begins, IsHeld, IsNew, MayMiss, Says, Stays};
+ghost use Rattle.acq_gateway.specs.Telling.{Takes, Tells, bad_line, missing_line, outcome_line};
+ghost use Rattle.acq_gateway.specs.Telling.{unsent_of};
 ghost use Rattle.acq_reports.specs.Marks.{csv_line};
 
 use crate::brought::Brought;
@@ -122,6 +123,7 @@ impl Gateway {
     /// So many bytes more were written.
     pub fn advance(&mut self, n: usize)
         ensures unsent { unsent_of self.new ≡ drop n (unsent_of self.old) }
+        ensures held { IsHeld self.new }
         ensures rows { self.new.rows ≡ self.old.rows }
         ensures from { self.new.from ≡ self.old.from }
     {
@@ -380,6 +382,7 @@ impl Gateway {
     fn begin<B: Book + Drop>(&mut self, host: &mut Host<B>, moment: Moment) -> Result<(), BookFault>
         ensures output { IfOk result (λ done. MayMiss self.old self.new) }
         ensures begins { IfOk result (λ done. Begins self.old self.new.rows) }
+        ensures taken { self.new.from ≡ None }
         ensures looks { Looks B.Book host.old host.new (is_ok result) }
         ensures store { CountsFault result (B.failures host.old) (B.failures host.new) }
     {
@@ -401,6 +404,7 @@ impl Gateway {
         ensures output { IfOk result (λ done.
             self.new.output.items ≡ self.old.output.items ++ missing_line last) }
         ensures rows { self.new.rows ≡ self.old.rows }
+        ensures from { self.new.from ≡ self.old.from }
         ensures gone { self.new.gone ≡ self.old.gone }
     {
         self.missing = Some(last);

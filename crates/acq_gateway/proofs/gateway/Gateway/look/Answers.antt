@@ -21,7 +21,7 @@ returns-clause-tells g c = λ h o.
     let same3 = three.looks.same o3 ∙ same2 in
     tells_if (g.B.Book.tables c.args.host.now) c.args.moment c.args.self.now c.confirm_all.new.self
     c.begin.new.self c.advise_ended.new.self c.tell_rows.new.self c.tell_rows.result
-    (one.says h1 o c.args.moment) two.output two.begins
+    (one.says h1 o c.args.moment) two.output two.begins two.taken
     (subst (λ (t : Tables). Says t c.args.moment c.begin.new.self c.advise_ended.new.self) same2
     (three.says h3 o2))
     (subst (λ (t : Tables). IfOk c.tell_rows.result (λ done.

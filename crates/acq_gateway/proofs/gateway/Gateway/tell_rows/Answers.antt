@@ -17,4 +17,5 @@ returns-clause-tells g c = λ h o. (
     refl,
   ),
   refl,
+  refl,
 )
