@@ -1084,7 +1084,8 @@ def a_day_by_iso(program):
                     list(at_once.map(lambda k: half_a_day(host, k, trace, reference), shops))
                     if restart == "host":
                         host.tell("stop")
-                        wanted("the host's end", host.ends(), (0, []))
+                        # It may have met the end of a gateway that was killed: 54.
+                        wanted("the host's end", host.ends()[0], 0)
                         host.begin()
                     elif not restart:
                         done_with = [8 * len(shops) * (turn + 1), {}]

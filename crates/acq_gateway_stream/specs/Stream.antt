@@ -1,4 +1,5 @@
--- What a gateway gets over one connection (own profile): steps, what they tell, and what they write.
+-- What a gateway gets over one connection (own profile): steps, what they tell, and what they
+-- write.
 use Rattle.std.proofs.Common.{inl, inr}
 use Rattle.std.specs.Prelude.{◌≡◌, ◌⊎◌, ◌++◌, ℕ, List, [], ◌∷◌, Option, drop, take}
 use Rattle.std.specs.List.{concat}
