@@ -60,24 +60,32 @@ impl AskedBook {
     /// What it has of what is wanted.
     fn found(&self, wanted: &Wanted) -> Option<Looked> {
         let mut looked = Looked::nothing(Day::from_number(0)?, Limit::from_number(1)?);
-        if let Some(id) = wanted.merchant {
-            looked.merchant = Some(Merchant {
-                id,
-                currency: Currency::read(b"978")?,
-                first_reference: FirstReference::from_number(1)?,
-            });
-        }
+        looked.merchant = wanted.merchant.and_then(merchant_named);
         looked.has_terminal = wanted.terminal.is_some();
         if wanted.prefix.is_some() {
-            looked.range = Some(Range {
-                low: 40_000_000,
-                high: 49_999_999,
-                issuer: IssuerId::from_slice(self.alloc, b"12345").ok()?,
-                hold_days: 7,
-            });
+            looked.range = only_range(self.alloc);
         }
         Some(looked)
     }
+}
+
+/// The merchant of a name.
+fn merchant_named(id: MerchantId) -> Option<Merchant> {
+    Some(Merchant {
+        id,
+        currency: Currency::read(b"978")?,
+        first_reference: FirstReference::from_number(1)?,
+    })
+}
+
+/// Its range. Without memory there is none, and a row differs.
+fn only_range(alloc: Global) -> Option<Range> {
+    Some(Range {
+        low: 40_000_000,
+        high: 49_999_999,
+        issuer: IssuerId::from_slice(alloc, b"12345").ok()?,
+        hold_days: 7,
+    })
 }
 
 impl Book for AskedBook {

@@ -50,19 +50,8 @@ impl Asking {
             b"sale" => self.sell(b"MERCHANT0000001"),
             b"another" => self.sell(b"MERCHANT0000002"),
             b"answer" => self.answer(),
-            b"range" => {
-                let issuer = IssuerId::from_slice(self.alloc, b"67890").ok()?;
-                self.change(Change::AddRange(Range {
-                    low: 50_000_000,
-                    high: 59_999_999,
-                    issuer,
-                    hold_days: 1,
-                }))
-            }
-            b"cutover" => {
-                self.day = self.day.next()?;
-                self.change(Change::SetDay(self.day))
-            }
+            b"range" => self.add_range(),
+            b"cutover" => self.cut_over(),
             b"status" => {
                 let _ = self.book.waiting_count();
                 let _ = self.book.pending(self.day);
@@ -86,6 +75,23 @@ impl Asking {
             }
             _ => None,
         }
+    }
+
+    /// A range more.
+    fn add_range(&mut self) -> Option<()> {
+        let issuer = IssuerId::from_slice(self.alloc, b"67890").ok()?;
+        self.change(Change::AddRange(Range {
+            low: 50_000_000,
+            high: 59_999_999,
+            issuer,
+            hold_days: 1,
+        }))
+    }
+
+    /// The next business day.
+    fn cut_over(&mut self) -> Option<()> {
+        self.day = self.day.next()?;
+        self.change(Change::SetDay(self.day))
     }
 
     /// A sale at a merchant, which waits for its issuer.
@@ -117,6 +123,10 @@ impl Asking {
 
     /// What is recorded of a sale.
     fn request(&self, key: RequestKey) -> Option<Request> {
+        let (amount, reply) = (
+            Amount::from_number(100)?,
+            Message::new(self.alloc, *b"0210")?,
+        );
         Some(Request {
             key,
             essence: MessageText::from_vec(Vec::new(self.alloc)),
@@ -125,13 +135,13 @@ impl Asking {
             admitted: true,
             reference: Reference::from_number(u64::from(self.sales)),
             follows: None,
-            amount: Amount::from_number(100)?,
+            amount,
             leg: Leg::Debit,
             card: None,
             acquirer: None,
             hold_days: None,
             hold_end: None,
-            reply: Message::new(self.alloc, *b"0210")?,
+            reply,
         })
     }
 

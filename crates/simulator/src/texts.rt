@@ -51,12 +51,22 @@ fn put_repeats<B: Book + Drop>(
     text: &mut Vec<u8>,
 ) -> Option<()> {
     for message in script.messages.iter() {
-        let message = MessageText::from_slice(alloc, message.as_slice()).ok()?;
-        let came = Event::Frame(moment_at(0), message);
-        let said = host.take(&came).ok()?;
-        if let Output::Reply(_, reply) = &said {
-            put_frame(text, reply.as_bytes())?;
-        }
+        put_repeat(alloc, host, message.as_slice(), text)?;
     }
     Some(())
+}
+
+/// Puts the reply to a message, if it gets one.
+fn put_repeat<B: Book + Drop>(
+    alloc: Global,
+    host: &mut Host<B>,
+    message: &[u8],
+    text: &mut Vec<u8>,
+) -> Option<()> {
+    let message = MessageText::from_slice(alloc, message).ok()?;
+    match host.take(&Event::Frame(moment_at(0), message)) {
+        Ok(Output::Reply(_, reply)) => put_frame(text, reply.as_bytes()),
+        Ok(_) => Some(()),
+        Err(_) => None,
+    }
 }
