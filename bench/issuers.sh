@@ -1,8 +1,9 @@
 #!/bin/sh
-# issuers.sh [SALES]: has 64 terminals sell at once to `acqd listen --together 64`, 5,000 sales or as many as its
-# argument says, over a book in a file on this disk and one in memory: with issuers that answer at once, and with
-# ones that take 50 ms, each by a file that plays them and by a gateway (issuers/gateway.c). Prints sales a second and how long a reply took: in the middle, and at most for 99 of 100.
-# ACQD may name another program than the built one. It needs python3 and a C compiler.
+# issuers.sh [SALES]: has 64 terminals sell at once to `acqd listen --together 64`, 5,000 sales or as
+# many as its argument says, over a book in a file on this disk and one in memory: with issuers that
+# answer at once, and with ones that take 50 ms, each by a file that plays them and by a gateway
+# (issuers/gateway.c). Prints sales a second and how long a reply took: in the middle, and at most
+# for 99 of 100. ACQD may name another program than the built one. It needs python3 and a C compiler.
 set -eu
 unset CDPATH
 top=$(cd "$(dirname "$0")/.." && pwd)
