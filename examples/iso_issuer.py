@@ -4,6 +4,7 @@
 It approves a request (0100, 0200) below LIMIT (10000, in minor units), declines any other with 51,
 and accepts advices (0220, 0420). A message that it had before gets the reply that it had. It serves
 one connection after the other, and prints what it takes, with no card number."""
+import contextlib
 import socket
 import sys
 
@@ -70,7 +71,7 @@ def main():
     with socket.create_server(("127.0.0.1", int(port))) as server:
         while True:
             end, held = server.accept()[0], bytearray()
-            with end:
+            with end, contextlib.suppress(ConnectionError):  # the next one asks again
                 while came := end.recv(65536):
                     held += came
                     for text in messages_in(held):

@@ -75,7 +75,7 @@ def values(program):
          "1 to 1024, as in --from-one-address 8"),
         ([*begun, "--stop-within", "1234567"], "--stop-within", seconds),
         ([*begun, "--answer-within", "1.5"], "--answer-within", seconds),
-        ([*begun, "--gateway-within", "-1"], "--gateway-within",
+        ([*begun, "--gateway-within", "never"], "--gateway-within",
          "1 to 6 digits of seconds, 0 for not at all, as in 60"),
         (["tell", "--within", "-", "c"], "--within", seconds),
         (["ask", "--port", "1", "--within", "-"], "--within", seconds),
