@@ -42,6 +42,7 @@ class Echoes(threading.Thread):
 
     def run(self):
         with self.host.terminal() as one:
+            one.ask(echo())  # the host may still begin
             while not self.stopped:
                 begun = time.perf_counter()
                 wanted("an echo", one.ask(echo()), echoed())
