@@ -8,6 +8,7 @@ import subprocess
 import sys
 import tempfile
 
+from gateways import Gateway, GatewayHost
 from terminal import (
     BAD, DAY, ECHO, MOMENT, PATIENCE, REPLY, Book, Host, approved, free_port, log_lines, main, sale,
     wanted, when,
@@ -254,6 +255,23 @@ def connections(program):
         ])
 
 
+def a_gateway(program):
+    """A gateway that knows of more rows than the book has, beside a host that goes on."""
+    with Book(program) as book:
+        inner, outer = pty.openpty()
+        host = GatewayHost(book, stderr=outer)
+        os.close(outer)
+        with host:
+            with Gateway(host.gateway_path) as gateway:
+                wanted("the word on it", gateway.ask("from,1"), "acqd: 65 RowsMissing 0")
+            host.end()
+        lines = [it for it in read_lines(inner) if it.startswith("acqd: ")]
+        wanted("what a person reads of a gateway", lines, [
+            "acqd: 65 RowsMissing 0",
+            f"{NOTE}a gateway knows of rows that this book lacks: is it an old copy?",
+        ])
+
+
 def in_the_log(program):
     """The fault that ends a host stands in its log, also if nobody reads standard error."""
     with Book(program) as book, socket.socket() as taken:
@@ -283,7 +301,7 @@ def in_the_log(program):
         ])
 
 
-TRIES = [values, books, ports, hosts, days, connections, in_the_log]
+TRIES = [values, books, ports, hosts, days, connections, a_gateway, in_the_log]
 
 if __name__ == "__main__":
     sys.exit(main(TRIES, at_once=2))
