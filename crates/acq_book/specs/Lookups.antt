@@ -1,4 +1,4 @@
--- What each look-up and each walk gives: a filter of the tables' lists.
+-- What each look-up and each walk gives of the tables' lists.
 use Rattle.std.specs.Prelude.{ℕ, ◌==◌, nat_lt, Bool, true, false, ◌&&◌, List, filter, find}
 use Rattle.std.specs.Prelude.{Option, Some, None, option_map, length, drop}
 use Rattle.std.specs.List.{list_any}
@@ -14,6 +14,7 @@ use Rattle.acq_message.specs.declared.request_key.RequestKey.{RequestKey}
 use Rattle.acq_message.specs.Numbers.{is_number}
 use Rattle.acq_message.specs.Elements.{same_key}
 use Rattle.acq_core.specs.declared.merchant.Merchant.{Merchant}
+use Rattle.acq_core.specs.declared.terminal.Terminal.{Terminal}
 use Rattle.acq_core.specs.declared.request.Request.{Request}
 use Rattle.acq_core.specs.declared.posting.Posting.{Posting}
 use Rattle.acq_core.specs.declared.reconciliation.Reconciliation.{Reconciliation}
@@ -107,9 +108,26 @@ postings_behind_at t m day =
     in_order is_posting_before
     (filter (λ row. (row.1.day == day) && is_lt (slice_cmp nat_cmp m row.1.merchant)) t.postings)
 
+-- by name
+abbrev pub is_merchant_before : Merchant → Merchant → Bool
+is_merchant_before a b = is_lt (slice_cmp nat_cmp a.id b.id)
+
 -- the merchants, in order of their names
 abbrev pub merchants_at : Tables → List Merchant
-merchants_at t = in_order (λ a b. is_lt (slice_cmp nat_cmp a.id b.id)) t.merchants
+merchants_at t = in_order is_merchant_before t.merchants
+
+-- by merchant, and of one merchant by name
+abbrev pub is_terminal_before : Terminal → Terminal → Bool
+is_terminal_before a b =
+    is_lt (ordering_then (slice_cmp nat_cmp a.merchant b.merchant) (slice_cmp nat_cmp a.id b.id))
+
+-- the terminals of all merchants, in order of merchant and name
+abbrev pub terminals_at : Tables → List Terminal
+terminals_at t = in_order is_terminal_before t.terminals
+
+-- the ranges, which are in order of low
+abbrev pub ranges_at : Tables → List Range
+ranges_at t = t.ranges
 
 -- an authorization
 abbrev pub is_authorization : Service → Bool

@@ -10,7 +10,8 @@ ghost use Rattle.acq_book.specs.Lookups.{request_at, referred_at, admitted_at, u
 ghost use Rattle.acq_book.specs.Lookups.{pending_at, used_on_at, waiting_count_at};
 ghost use Rattle.acq_book.specs.Lookups.{last_reconciliation_at};
 ghost use Rattle.acq_book.specs.Lookups.{postings_at, postings_above_at, postings_behind_at};
-ghost use Rattle.acq_book.specs.Lookups.{merchants_at, holds_at, waiting_at, requests_behind_at};
+ghost use Rattle.acq_book.specs.Lookups.{merchants_at, terminals_at, ranges_at};
+ghost use Rattle.acq_book.specs.Lookups.{holds_at, waiting_at, requests_behind_at};
 ghost use Rattle.acq_book.specs.Looked.{IsLooked};
 ghost use Rattle.acq_book.specs.Groups.{BeginsBy, GivesWithinBy, IsLive, KeepsBy, MakesWithinBy};
 ghost use Rattle.acq_book.specs.Groups.{ReturnsBy};
@@ -20,7 +21,7 @@ use crate::book_fault::BookFault;
 use crate::visit::Visit;
 use acq_core::{
     AdmittedCount, Change, Limit, Looked, Merchant, MerchantId, Posting, Reconciliation, Reference,
-    Request, RequestKey, TerminalId, UsedCount, Wanted,
+    Request, RequestKey, Terminal, TerminalId, UsedCount, Wanted,
 };
 use card_no::{Prefix, Range};
 use day_totals::{Day, Totals};
@@ -156,6 +157,18 @@ pub trait Book {
         ensures { WalksBy tables is_honest is_open may_leave leaves_books failures store_faults
             has_room self.old self.new result
             V.sees (merchants_at (tables self.old)) visitor.old visitor.new };
+
+    /// Hands over the terminals of all merchants, in order of merchant and name.
+    fn walk_terminals<V: Visit<Terminal>>(&mut self, visitor: &mut V) -> Result<(), BookFault>
+        ensures { WalksBy tables is_honest is_open may_leave leaves_books failures store_faults
+            has_room self.old self.new result
+            V.sees (terminals_at (tables self.old)) visitor.old visitor.new };
+
+    /// Hands over the ranges, in order of low.
+    fn walk_ranges<V: Visit<Range>>(&mut self, visitor: &mut V) -> Result<(), BookFault>
+        ensures { WalksBy tables is_honest is_open may_leave leaves_books failures store_faults
+            has_room self.old self.new result
+            V.sees (ranges_at (tables self.old)) visitor.old visitor.new };
 
     /// Hands over a merchant's approved holds, which are neither completed nor reversed, in order
     /// of reference.

@@ -11,8 +11,9 @@ use crate::list_tables::ListTables;
 use crate::walks::show;
 use acq_book::{Book, BookFault, Visit};
 use acq_core::{
-    Change, Limit, Looked, Merchant, MerchantId, Posting, Reconciliation, Request, Wanted,
+    Change, Limit, Looked, Merchant, MerchantId, Posting, Reconciliation, Request, Terminal, Wanted,
 };
+use card_no::Range;
 use day_totals::Day;
 use std::alloc::Global;
 use std::hash::RandomState;
@@ -157,6 +158,14 @@ impl Book for ListBook {
 
     fn walk_merchants<V: Visit<Merchant>>(&mut self, visitor: &mut V) -> Result<(), BookFault> {
         show(self.tables.merchants(), visitor)
+    }
+
+    fn walk_terminals<V: Visit<Terminal>>(&mut self, visitor: &mut V) -> Result<(), BookFault> {
+        show(self.tables.terminals(), visitor)
+    }
+
+    fn walk_ranges<V: Visit<Range>>(&mut self, visitor: &mut V) -> Result<(), BookFault> {
+        show(self.tables.ranges(), visitor)
     }
 
     fn walk_holds<V: Visit<Request>>(

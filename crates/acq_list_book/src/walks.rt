@@ -2,19 +2,18 @@
 
 ghost use Rattle.std.specs.Prelude.{◌≡◌, ℕ, List, map, is_ok, IfOk, OnOk, OnErr};
 ghost use Rattle.std.specs.Map.Iter.{deref};
-ghost use Rattle.std.specs.Ordering.{nat_cmp, is_lt};
-ghost use Rattle.std.specs.Cmp.Lexicographic.{slice_cmp};
 ghost use Rattle.acq_core.specs.declared.merchant.Merchant.{Merchant};
 ghost use Rattle.acq_core.specs.declared.posting.Posting.{Posting};
 ghost use Rattle.acq_core.specs.declared.request.Request.{Request};
-ghost use Rattle.acq_book.specs.Lookups.{is_posting_before};
-ghost use Rattle.acq_book.specs.Lookups.{is_reference_before};
+ghost use Rattle.acq_core.specs.declared.terminal.Terminal.{Terminal};
+ghost use Rattle.acq_book.specs.Lookups.{is_merchant_before, is_posting_before};
+ghost use Rattle.acq_book.specs.Lookups.{is_reference_before, is_terminal_before};
 ghost use Rattle.acq_book.specs.Order.{in_order};
 ghost use Rattle.acq_book.specs.Promise.{CountsFault};
 ghost use Rattle.acq_book.specs.Visits.{SawAll, SawRows, SawSome};
 
 use acq_book::{BookFault, Visit};
-use acq_core::{Merchant, Posting, Request};
+use acq_core::{Merchant, Posting, Request, Terminal};
 use std::alloc::AllocError;
 
 /// Hands over rows in turn, to the last or until the visitor wants no more; none, where memory ran
@@ -64,14 +63,29 @@ pub(crate) fn in_order_of_names(
     rows: Result<Vec<&Merchant>, AllocError>,
 ) -> Result<Vec<&Merchant>, AllocError>
     ensures { (all : List Merchant) → IfOk rows.entry (λ rows. map deref rows.items ≡ all)
-        → IfOk result (λ sorted. map deref sorted.items
-        ≡ in_order (λ a b. is_lt (slice_cmp nat_cmp a.id b.id)) all) }
+        → IfOk result (λ sorted. map deref sorted.items ≡ in_order is_merchant_before all) }
 {
     let mut rows = rows?;
     rows.sort_by_key(
         |row: &&Merchant|
             ensures { result ≡ row.now.now.id }
         { row.id.to_bytes() },
+    )?;
+    Ok(rows)
+}
+
+/// Terminals by merchant, and of one merchant by name.
+pub(crate) fn in_order_of_terminals(
+    rows: Result<Vec<&Terminal>, AllocError>,
+) -> Result<Vec<&Terminal>, AllocError>
+    ensures { (all : List Terminal) → IfOk rows.entry (λ rows. map deref rows.items ≡ all)
+        → IfOk result (λ sorted. map deref sorted.items ≡ in_order is_terminal_before all) }
+{
+    let mut rows = rows?;
+    rows.sort_by_key(
+        |row: &&Terminal|
+            ensures { result ≡ (row.now.now.merchant, row.now.now.id) }
+        { (row.merchant.to_bytes(), row.id.to_bytes()) },
     )?;
     Ok(rows)
 }

@@ -1,7 +1,8 @@
 //! Terminals at merchants.
 
 ghost use Rattle.std.specs.Prelude.{◌≡◌, ◌+◌, ◌<◌, ◌≤◌, ◌++◌, ◌∷◌, [], ◌&&◌, false, None};
-ghost use Rattle.std.specs.Prelude.{length, OnOk};
+ghost use Rattle.std.specs.Prelude.{length, map, IfOk, OnOk};
+ghost use Rattle.std.specs.Map.Iter.{deref};
 ghost use Rattle.std.specs.List.{list_any};
 ghost use Rattle.std.specs.Str.{bytes_eq};
 ghost use Rattle.indexmap.specs.IndexMap.{get, spare};
@@ -59,6 +60,13 @@ impl Terminals {
         ensures { result ≡ length self.now.rows }
     {
         self.rows.len() as u64
+    }
+
+    /// All terminals, in the order in which they came.
+    pub fn all(&self, alloc: Global) -> Result<Vec<&Terminal>, AllocError>
+        ensures { IfOk result (λ rows. map deref rows.items ≡ self.now.rows) }
+    {
+        self.rows.values().collect(alloc)
     }
 
     /// Makes room for one more.

@@ -13,7 +13,10 @@ use crate::lenient::Lenient;
 use crate::recollection::Recollection;
 use crate::waiting::MOST_WAITING;
 use acq_book::{Book, BookFault, Visit};
-use acq_core::{Change, Looked, Merchant, MerchantId, Posting, Reconciliation, Request, Wanted};
+use acq_core::{
+    Change, Looked, Merchant, MerchantId, Posting, Reconciliation, Request, Terminal, Wanted,
+};
+use card_no::Range;
 use day_totals::Day;
 use std::alloc::Global;
 use std::hash::RandomState;
@@ -158,6 +161,14 @@ impl<B: Lenient + Drop> Book for RecallingBook<B> {
 
     fn walk_merchants<V: Visit<Merchant>>(&mut self, visitor: &mut V) -> Result<(), BookFault> {
         self.book.walk_merchants(visitor)
+    }
+
+    fn walk_terminals<V: Visit<Terminal>>(&mut self, visitor: &mut V) -> Result<(), BookFault> {
+        self.book.walk_terminals(visitor)
+    }
+
+    fn walk_ranges<V: Visit<Range>>(&mut self, visitor: &mut V) -> Result<(), BookFault> {
+        self.book.walk_ranges(visitor)
     }
 
     fn walk_holds<V: Visit<Request>>(

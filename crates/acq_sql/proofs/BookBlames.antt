@@ -21,6 +21,7 @@ use Rattle.acq_book.specs.declared.book_fault.BookFault.TheVariants.{Memory, Sto
 use Rattle.acq_book.specs.Fits.{Fits, HasItsRequest}
 use Rattle.acq_book.specs.Lookups.{terminal_count_at, range_count_at, pending_at, postings_at}
 use Rattle.acq_book.specs.Lookups.{merchants_at, holds_at, waiting_at, is_posting_before}
+use Rattle.acq_book.specs.Lookups.{is_merchant_before, is_terminal_before, terminals_at, ranges_at}
 use Rattle.acq_book.specs.Lookups.{is_reference_before, is_authorization, used_on_at}
 use Rattle.acq_book.specs.Lookups.{postings_above_at, postings_behind_at, waiting_count_at}
 use Rattle.acq_book.specs.Order.{put_in_order, in_order}
@@ -168,6 +169,12 @@ module _ (s : State) (t : Tables) (o : IsOpenAt s t) (left : HasNumbersLeft s.no
       number_left terminal_row (s.now.trees terminals_tree) t.terminals o.at.holds.rows.terminals
       left.terminals
 
+  few_ranges : HasNumberLeft t.ranges
+  few_ranges =
+      let same = ap length o.at.holds.rows.ranges ∙ length-map range_row t.ranges in
+      let few = left.ranges in
+      omega (arith, same, few)
+
   few_requests : HasNumberLeft t.requests
   few_requests =
       number_left request_row (s.now.trees requests_tree) t.requests o.at.holds.rows.requests
@@ -180,18 +187,24 @@ module _ (s : State) (t : Tables) (o : IsOpenAt s t) (left : HasNumbersLeft s.no
   terminals_told = let few = few_terminals in (o.past, omega (arith, few))
 
   pub ranges_told : HasPast t × IsTold (range_count_at t)
-  ranges_told =
-      let same = ap length o.at.holds.rows.ranges ∙ length-map range_row t.ranges in
-      let few = left.ranges in
-      (o.past, omega (arith, same, few))
+  ranges_told = let few = few_ranges in (o.past, omega (arith, few))
 
   pub merchants_walked : HasPast t × CanBeWalked (merchants_at t)
   merchants_walked =
       let few =
       number_left merchant_row (s.now.trees merchants_tree) t.merchants o.at.holds.rows.merchants
       left.merchants in
-      let same = order_length (λ a b. is_lt (slice_cmp nat_cmp a.id b.id)) t.merchants in
+      let same = order_length is_merchant_before t.merchants in
       (o.past, omega (arith, few, same))
+
+  pub terminals_walked : HasPast t × CanBeWalked (terminals_at t)
+  terminals_walked =
+      let few = few_terminals in
+      let same = order_length is_terminal_before t.terminals in
+      (o.past, omega (arith, few, same))
+
+  pub ranges_walked : HasPast t × CanBeWalked (ranges_at t)
+  ranges_walked = let few = few_ranges in (o.past, omega (arith, few))
 
   pub waiting_told : HasPast t × IsTold (waiting_count_at t)
   waiting_told =

@@ -10,9 +10,11 @@ use crate::once_book::showing::show_held;
 use crate::sql_book::SqlBook;
 use acq_book::{Book, BookFault, Visit};
 use acq_core::{
-    Change, Looked, Merchant, MerchantId, Posting, Reconciliation, Request, Status, Wanted,
+    Change, Looked, Merchant, MerchantId, Posting, Reconciliation, Request, Status, Terminal,
+    Wanted,
 };
 use acq_recall::Lenient;
+use card_no::Range;
 use day_totals::Day;
 use sqlite::Alter;
 use std::alloc::Global;
@@ -173,6 +175,14 @@ impl<S: Alter> Book for OnceBook<S> {
 
     fn walk_merchants<V: Visit<Merchant>>(&mut self, visitor: &mut V) -> Result<(), BookFault> {
         self.book.walk_merchants(visitor)
+    }
+
+    fn walk_terminals<V: Visit<Terminal>>(&mut self, visitor: &mut V) -> Result<(), BookFault> {
+        self.book.walk_terminals(visitor)
+    }
+
+    fn walk_ranges<V: Visit<Range>>(&mut self, visitor: &mut V) -> Result<(), BookFault> {
+        self.book.walk_ranges(visitor)
     }
 
     fn walk_holds<V: Visit<Request>>(

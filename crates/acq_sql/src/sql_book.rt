@@ -28,7 +28,7 @@ use crate::memo::Memo;
 use crate::refusal::Refusal;
 use acq_book::{Book, BookFault, Visit};
 use acq_core::{
-    Change, Limit, Looked, Merchant, MerchantId, Posting, Reconciliation, Request, Wanted,
+    Change, Limit, Looked, Merchant, MerchantId, Posting, Reconciliation, Request, Terminal, Wanted,
 };
 use acq_recall::Lenient;
 use acq_soundness::every_opening;
@@ -36,6 +36,7 @@ use acq_sql_checking::check_book;
 use acq_sql_opening::{make_book, migrate_book};
 use acq_sql_rows::tables::VERSION;
 use acq_widening::laws::pasts_are_widened;
+use card_no::Range;
 use day_totals::Day;
 use sqlite::{Alter, Connection, Error};
 use sqlite_disk::Disk;
@@ -422,6 +423,18 @@ impl<S: Alter> Book for SqlBook<S> {
     fn walk_merchants<V: Visit<Merchant>>(&mut self, visitor: &mut V) -> Result<(), BookFault> {
         self.settled();
         let walked = acq_sql_reads::walk_merchants(&mut self.connection, visitor);
+        counted(&mut self.failures, walked)
+    }
+
+    fn walk_terminals<V: Visit<Terminal>>(&mut self, visitor: &mut V) -> Result<(), BookFault> {
+        self.settled();
+        let walked = acq_sql_reads::walk_terminals(&mut self.connection, visitor);
+        counted(&mut self.failures, walked)
+    }
+
+    fn walk_ranges<V: Visit<Range>>(&mut self, visitor: &mut V) -> Result<(), BookFault> {
+        self.settled();
+        let walked = acq_sql_reads::walk_ranges(&mut self.connection, self.alloc, visitor);
         counted(&mut self.failures, walked)
     }
 

@@ -469,7 +469,7 @@ pub ranges_apart : (t : Tables) → HasPast t → are_apart t.ranges ≡ true
 ranges_apart t (opening, book) =
     (and_parts (list_all is_valid_range t.ranges) _ (books_are_sound opening t book).ranges).1
 
-range_valid : (t : Tables) → HasPast t → (r : Range) → Has t.ranges r → is_valid_range r ≡ true
+pub range_valid : (t : Tables) → HasPast t → (r : Range) → Has t.ranges r → is_valid_range r ≡ true
 range_valid t (opening, book) r =
     test_has is_valid_range t.ranges r
     (and_parts (list_all is_valid_range t.ranges) _ (books_are_sound opening t book).ranges).0

@@ -17,27 +17,30 @@ use Rattle.sqlite.specs.State.{State}
 use Rattle.row_lemmas.specs.Excused.{IsExcused}
 use Rattle.row_lemmas.specs.Values.{number}
 use Rattle.row_lemmas.proofs.QueriesSucceed.{query_succeeds}
+use Rattle.card_no.specs.declared.range.Range.{Range}
 use Rattle.card_no.specs.CardNumbers.{is_valid_card}
 use Rattle.acq_core.specs.declared.merchant.Merchant.{Merchant}
 use Rattle.acq_core.specs.declared.posting.Posting.{Posting}
 use Rattle.acq_core.specs.declared.request.Request.{Request}
+use Rattle.acq_core.specs.declared.terminal.Terminal.{Terminal}
 use Rattle.acq_core.specs.Pasts.{HasPast}
 use Rattle.acq_core.specs.Tables.{Tables}
-use Rattle.acq_book.specs.Lookups.{holds_at, merchants_at, waiting_at}
+use Rattle.acq_book.specs.Lookups.{merchants_at, terminals_at, ranges_at, holds_at, waiting_at}
 use Rattle.acq_book.specs.Lookups.{postings_at, postings_above_at, postings_behind_at}
-use Rattle.acq_soundness.specs.Rows.{FitsMerchant, FitsPosting}
-use Rattle.acq_sql_rows.specs.Rows.{version, merchant_row, posting_row, request_row}
+use Rattle.acq_soundness.specs.Rows.{FitsMerchant, FitsPosting, FitsTerminal}
+use Rattle.acq_sql_rows.specs.Rows.{version, merchant_row, terminal_row, posting_row, request_row}
 use Rattle.acq_sql_rows.specs.declared.form.Form.{Form}
 use Rattle.acq_sql_rows.specs.Schema.{book_schema}
 use Rattle.acq_sql_rows.specs.Standing.{IsOpenOver}
 use Rattle.acq_sql_reads.specs.Failing.{AreNumbered, CanBeWalked, IsMerchantRow, IsPostingRow}
-use Rattle.acq_sql_reads.specs.Failing.{IsRequestRow}
+use Rattle.acq_sql_reads.specs.Failing.{IsTerminalRow, IsRangeRow, IsRequestRow}
+use Rattle.acq_sql_reads.specs.Looked.{range_cells}
 use Rattle.acq_sql_reads.specs.Shown.{FailsToHandOver, ShowsOnly}
 use Rattle.acq_sql_reads.specs.WalkTexts as text
 use Rattle.acq_sql_reads.specs.WalkQueries as query
 use Rattle.acq_sql_reads.proofs.CardsOfPostings.{cards_valid}
 use Rattle.acq_sql_reads.proofs.Failing.{IsAlone, IsNeverRefused, query_fails, request_fits}
-use Rattle.acq_sql_reads.proofs.Failing.{request_is_read, rows_fit}
+use Rattle.acq_sql_reads.proofs.Failing.{range_valid, request_is_read, rows_fit}
 use Rattle.acq_sql_reads.proofs.FittingMembers.{fits_each, in_from}
 use Rattle.acq_sql_reads.proofs.HoldWalk.{holds_among, holds_list}
 use Rattle.acq_sql_reads.proofs.MerchantWalk.{merchants_among, merchants_list}
@@ -45,8 +48,10 @@ use Rattle.acq_sql_reads.proofs.PendingWalk.{waiting_among, waiting_list}
 use Rattle.acq_sql_reads.proofs.PostingWalk.{postings_among, postings_list}
 use Rattle.acq_sql_reads.proofs.PostingWalk.{above_among, above_list, behind_among, behind_list}
 use Rattle.acq_sql_reads.proofs.PostingsAbove.{greatest_number}
+use Rattle.acq_sql_reads.proofs.RangeWalk.{ranges_list}
 use Rattle.acq_sql_reads.proofs.RequestsBehind.{none_behind, requests_behind_among}
 use Rattle.acq_sql_reads.proofs.RequestsBehind.{requests_behind_list}
+use Rattle.acq_sql_reads.proofs.TerminalWalk.{terminals_among, terminals_list}
 use Rattle.acq_sql_reads.proofs.Walking.{ShowsList, front}
 
 -- ---- its query
@@ -66,6 +71,14 @@ behind_alone = record { whole = λ form. refl; given = λ form. refl }
 merchants_alone : IsAlone text.merchants_text 0
 unfolding understood everything book_schema
 merchants_alone = record { whole = λ form. refl; given = λ form. refl }
+
+terminals_alone : IsAlone text.terminals_text 0
+unfolding understood everything book_schema
+terminals_alone = record { whole = λ form. refl; given = λ form. refl }
+
+ranges_alone : IsAlone text.ranges_text 0
+unfolding understood everything book_schema
+ranges_alone = record { whole = λ form. refl; given = λ form. refl }
 
 holds_alone : IsAlone text.holds_text 1
 unfolding understood everything book_schema
@@ -101,6 +114,15 @@ typed_merchants : (form : Form) → accepts_program (book_schema form) [] query.
 unfolding book_schema
 typed_merchants form = refl
 
+typed_terminals : (form : Form) → accepts_program (book_schema form) [] query.terminals_query []
+    ≡ true
+unfolding book_schema
+typed_terminals form = refl
+
+typed_ranges : (form : Form) → accepts_program (book_schema form) [] query.ranges_query [] ≡ true
+unfolding book_schema
+typed_ranges form = refl
+
 typed_holds : (form : Form) (m : List ℕ)
     → accepts_program (book_schema form) [] query.holds_query (Text m ∷ []) ≡ true
 unfolding book_schema
@@ -125,6 +147,19 @@ merchant_fits_row t past y here = (
   fits_each FitsMerchant t.merchants y (rows_fit t past).merchants
       (merchants_among t y here),
 )
+
+terminal_fits_row : (t : Tables) → HasPast t → (y : Terminal) → Has (terminals_at t) y
+    → IsTerminalRow (terminal_row y)
+terminal_fits_row t past y here = (
+  y,
+  refl,
+  fits_each FitsTerminal t.terminals y (rows_fit t past).terminals
+      (terminals_among t y here),
+)
+
+range_fits_row : (t : Tables) → HasPast t → (y : Range) → Has (ranges_at t) y
+    → IsRangeRow (range_cells y)
+range_fits_row t past y here = (y, refl, range_valid t past y here)
 
 posting_fits_row : (t : Tables) → HasPast t → (y : ℕ × Posting) → Has t.postings y
     → IsPostingRow (posting_row y)
@@ -232,6 +267,24 @@ module _ {V : Type 0} (old new : State) (res : Result V Error) (t : Tables)
       query.merchants_query.project query.merchants_query.order
       query.merchants_query.limit (book_schema has.0) [] (typed_merchants has.0) db e has.1)
       (merchant_fits_row t past)
+
+  pub terminals_excused : CanBeWalked (terminals_at t)
+      → Walked text.terminals_text [] IsTerminalRow → IfErr res (IsExcused old new)
+  terminals_excused =
+      walked text.terminals_text [] (terminals_list old t at.holds) IsTerminalRow
+      terminals_alone (λ db e has. query_succeeds 3 query.terminals_query.filter
+      query.terminals_query.project query.terminals_query.order
+      query.terminals_query.limit (book_schema has.0) [] (typed_terminals has.0) db e has.1)
+      (terminal_fits_row t past)
+
+  pub ranges_excused : CanBeWalked (ranges_at t)
+      → Walked text.ranges_text [] IsRangeRow → IfErr res (IsExcused old new)
+  ranges_excused =
+      walked text.ranges_text [] (ranges_list old t at.holds) IsRangeRow
+      ranges_alone (λ db e has. query_succeeds 5 query.ranges_query.filter
+      query.ranges_query.project query.ranges_query.order
+      query.ranges_query.limit (book_schema has.0) [] (typed_ranges has.0) db e has.1)
+      (range_fits_row t past)
 
   pub holds_excused : (m : List ℕ) → CanBeWalked (holds_at t m)
       → Walked text.holds_text (Text m ∷ []) IsRequestRow → IfErr res (IsExcused old new)

@@ -41,7 +41,7 @@ use Rattle.acq_sql_reads.specs.Queries as query
 use Rattle.acq_sql_reads.proofs.TextLemmas as asks
 use Rattle.acq_sql_reads.proofs.RowReads.{any_found, tally_shown}
 
-pub bytes_own : (a : List ℕ) → bytes_eq a a ≡ true
+bytes_own : (a : List ℕ) → bytes_eq a a ≡ true
 bytes_own a = (bytes_eq-Decides a a).1 refl
 
 pub number_own : (a : ℕ) → (a == a) ≡ true
@@ -184,6 +184,17 @@ module _ (merchant id : List ℕ) where
       query.two_are names is_it
       named one_name) in
       ap is_any are ∙ any_found terminal_row is_it t.terminals
+
+  -- no two terminals of a merchant have one name
+  pub one_terminal : (form : Form) (db : Trees) (xs : List Terminal) → Fits (book_schema form) db
+      → db 3 ≡ rows_of terminal_row xs → length (filter is_it xs) ≤ 1
+  one_terminal form db xs fits held =
+      let test = query.two_are in
+      let count = numbered_counted terminal_row (picked test names) is_it xs named in
+      subst (λ n. n ≤ 1) (ap (λ l. length (filter (picked test names) l)) held ∙ count)
+      (few_pass_key terminal_row (book_schema form) db (bare at.the_terminals) terminal_key fits
+      (terminal_keyed form).0
+      (terminal_keyed form).1 refl xs held test names is_it named one_name)
 
 -- ---- the running totals of a merchant's day
 

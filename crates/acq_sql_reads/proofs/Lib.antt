@@ -16,12 +16,15 @@ pub mod Showing
 pub mod Walking
 pub mod Ordering
 pub mod MerchantWalk
+pub mod TerminalWalk
 pub mod FittingMembers
 pub mod AboveTests
 pub mod PostingsAbove
 pub mod PostingWalk
 pub mod HoldReferences
 pub mod HoldWalk
+pub mod RisingNumbers
+pub mod RangeWalk
 pub mod RowidOrder
 pub mod RowidWalk
 pub mod PendingWalk

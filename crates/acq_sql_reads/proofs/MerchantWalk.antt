@@ -1,12 +1,10 @@
 -- What the walk over merchants answers.
-use Rattle.std.proofs.Common.{◌≡◌, true, Ordering, Equal, List, [], ◌∷◌, map, filter, length, refl}
-use Rattle.std.proofs.Common.{sym}
+use Rattle.std.proofs.Common.{◌≡◌, true, Ordering, Equal, List, [], ◌∷◌, map, length, refl, sym}
 use Rattle.std.proofs.Common.{ap, subst, ◌∙◌}
 use Rattle.std.specs.List.Sorted.{IsPermutation}
 use Rattle.std.specs.Str.{bytes_eq}
-use Rattle.std.specs.Ordering.{is_lt, is_eq, nat_cmp}
+use Rattle.std.specs.Ordering.{is_lt, nat_cmp}
 use Rattle.std.specs.Cmp.Lexicographic.{slice_cmp}
-use Rattle.std.proofs.lemmas.Map.Text.{is_eq-slice_cmp}
 use Rattle.sqlite_value.specs.declared.value.Value.TheVariants.{Text}
 use Rattle.sqlite_value.specs.Order.{Row, value_cmp}
 use Rattle.sqlite_value.proofs.OrderLemmas.{then-Equal, value_cmp-Text}
@@ -16,20 +14,20 @@ use Rattle.sqlite.specs.State.{State, Shown}
 use Rattle.row_lemmas.proofs.ListReads.{shows_ordered}
 use Rattle.acq_core.specs.declared.merchant.Merchant.{Merchant}
 use Rattle.acq_core.specs.Tables.{Tables}
-use Rattle.acq_book.specs.Lookups.{merchants_at}
+use Rattle.acq_book.specs.Lookups.{is_merchant_before, merchants_at}
 use Rattle.row_lemmas.proofs.UniqueKeys.{fits_of}
 use Rattle.acq_sql_rows.specs.Schema.{book_schema}
 use Rattle.acq_sql_rows.specs.Rows.{merchant_row}
 use Rattle.acq_sql_rows.specs.Tallies.{Running}
 use Rattle.acq_sql_rows.specs.Relation.{Holds, HoldsRows}
-use Rattle.acq_sql_rows.proofs.SameKeys.{bytes_same}
-use Rattle.acq_sql_reads.proofs.KeyReads.{bytes_own, one_merchant}
+use Rattle.acq_sql_reads.proofs.KeyReads.{one_merchant}
 use Rattle.acq_sql_reads.specs.WalkTexts as text
 use Rattle.acq_sql_reads.specs.WalkQueries as query
 use Rattle.acq_sql_reads.proofs.WalkTextLemmas as asks
 use Rattle.acq_sql_reads.proofs.Visiting.{AreOwn}
 use Rattle.acq_sql_reads.proofs.Walking.{ShowsList}
-use Rattle.acq_sql_reads.proofs.Ordering.{in_order_has, sorted_total, ordered_is}
+use Rattle.acq_sql_reads.proofs.Ordering.{filter_all, in_order_has, ordered_is, sorted_total}
+use Rattle.acq_sql_reads.proofs.Ordering.{texts_tied}
 
 abbrev out : Merchant → Output
 out x = (Text x.id ∷ [], merchant_row x)
@@ -41,10 +39,7 @@ names_compare : (a b : Merchant) → by_name a b ≡ slice_cmp nat_cmp a.id b.id
 names_compare a b = then-Equal (value_cmp (Text a.id) (Text b.id)) ∙ value_cmp-Text a.id b.id
 
 tied : (a b : Merchant) → by_name a b ≡ Equal → bytes_eq b.id a.id ≡ true
-tied a b is =
-    let alike : bytes_eq a.id b.id ≡ true =
-    sym (is_eq-slice_cmp a.id b.id) ∙ ap is_eq (sym (names_compare a b) ∙ is) in
-    ap (λ id. bytes_eq b.id id) (bytes_same a.id b.id alike) ∙ bytes_own b.id
+tied a b is = texts_tied a.id b.id (sym (names_compare a b) ∙ is)
 
 merchants_found : (old : State) (t : Tables) (runs : List Running) → HoldsRows old.now t runs →
     (rows : List Row)
@@ -59,25 +54,19 @@ merchants_found old t runs has rows shown =
     (λ x. true)
     (λ id x. refl) it.order it.limit out
     (λ id x. refl) (ask.is has.schema.0) in
-    let every = filter_all t.merchants in
     all.3
     ∙ ap (map merchant_row) (ordered_is by_name (sorted_total query.merchants_query out)
-    (λ a b. is_lt (slice_cmp nat_cmp a.id b.id))
+    is_merchant_before
     (λ a b. ap is_lt (names_compare a b)) (λ a b. bytes_eq b.id a.id) tied t.merchants all.0
-    (subst (λ l. IsPermutation l all.0) every all.1) all.2
+    (subst (λ l. IsPermutation l all.0) (filter_all t.merchants) all.1) all.2
     (λ a. one_merchant a.id has.schema.0 old.now.trees t.merchants
     (fits_of (book_schema has.schema.0) old.now.trees has.sound)
     has.merchants))
-  where
-    filter_all : (xs : List Merchant) → filter (λ x. true) xs ≡ xs
-    filter_all [] = refl
-    filter_all (x ∷ xs) = ap (λ l. x ∷ l) (filter_all xs)
 
 pub merchants_among : (t : Tables) (y : Merchant) → Has (merchants_at t) y → Has t.merchants y
 merchants_among t y here =
-    in_order_has by_name (sorted_total query.merchants_query out)
-    (λ a b. is_lt (slice_cmp nat_cmp a.id b.id)) (λ a b. ap is_lt (names_compare a b))
-    (λ a b. bytes_eq b.id a.id) tied t.merchants y here
+    in_order_has by_name (sorted_total query.merchants_query out) is_merchant_before
+    (λ a b. ap is_lt (names_compare a b)) (λ a b. bytes_eq b.id a.id) tied t.merchants y here
 
 same_merchant : (a b : Merchant) → merchant_row a ≡ merchant_row b → a ≡ b
 same_merchant a b h =

@@ -7,11 +7,15 @@ use Rattle.std.proofs.Common.{arith}
 use Rattle.std.specs.Cmp.{IsTotalOrder}
 use Rattle.std.specs.List.{AllByRecursion}
 use Rattle.std.specs.List.Sorted.{IsPermutation}
+use Rattle.std.specs.Str.{bytes_eq}
 use Rattle.std.specs.Ordering.{is_lt, is_eq, is_gt, int_cmp, nat_cmp, ordering_reverse}
+use Rattle.std.specs.Ordering.{ordering_then}
+use Rattle.std.specs.Cmp.Lexicographic.{slice_cmp}
 use Rattle.std.proofs.lemmas.Bool.Decides.{nat_tests}
 use Rattle.std.proofs.lemmas.Cmp.{tied_itself}
 use Rattle.std.proofs.lemmas.List.Sorted.{IsPermutation-sym, sum_by-IsPermutation}
 use Rattle.std.proofs.lemmas.List.Sums.{length-filter}
+use Rattle.std.proofs.lemmas.Map.Text.{is_eq-slice_cmp}
 use Rattle.sqlite_value.specs.Order.{value_cmp}
 use Rattle.sqlite_value.proofs.OrderLemmas.{value_cmp-Int}
 use Rattle.sqlite_trees.specs.Tree.{IsAscending}
@@ -22,6 +26,7 @@ use Rattle.sqlite_rules.proofs.ListLemmas.{all_from, has_kept}
 use Rattle.row_lemmas.specs.Values.{number}
 use Rattle.row_lemmas.proofs.Elements.{has_permuted, one_order}
 use Rattle.acq_book.specs.Order.{put_in_order, in_order}
+use Rattle.acq_sql_rows.proofs.SameKeys.{bytes_back}
 
 less_is : (o : Ordering) → is_lt o ≡ true → o ≡ Less
 less_is Less h = refl
@@ -54,6 +59,15 @@ numbers_compare a b =
 pub numbers_tied : (a b : ℕ) → nat_cmp a b ≡ Equal → (b == a) ≡ true
 numbers_tied a b is = grind (arith, nat_tests, is)
 
+pub texts_tied : (a b : List ℕ) → slice_cmp nat_cmp a b ≡ Equal → bytes_eq b a ≡ true
+texts_tied a b is = bytes_back b a ∙ sym (is_eq-slice_cmp a b) ∙ ap is_eq is
+
+-- by one key, and of one by another
+pub both_tied : (o p : Ordering) → ordering_then o p ≡ Equal → (o ≡ Equal) × (p ≡ Equal)
+both_tied Less p is = absurd (cc)
+both_tied Equal p is = (refl, is)
+both_tied Greater p is = absurd (cc)
+
 -- what a query sorts by is a total order
 pub sorted_total : {X : Type 0} (q : Query) (out : X → Output) →
     IsTotalOrder (λ a b. output_cmp q (out a) (out b))
@@ -65,7 +79,12 @@ sorted_total q out =
       congr = λ a b c. o.congr (out a) (out b) (out c);
     }
 
--- ---- how many pass a test
+-- ---- those that pass a test, and how many
+
+-- all pass where it asks nothing
+pub filter_all : {X : Type 0} (xs : List X) → filter (λ x. true) xs ≡ xs
+filter_all [] = refl
+filter_all (x ∷ xs) = ap (λ l. x ∷ l) (filter_all xs)
 
 passing_permuted : {X : Type 0} (p : X → Bool) (xs ys : List X) → IsPermutation xs ys
     → length (filter p ys) ≡ length (filter p xs)

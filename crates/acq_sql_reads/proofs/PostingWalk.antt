@@ -1,15 +1,14 @@
 -- What the walks over the postings of a day answer.
 use Rattle.std.proofs.Common.{◌++◌}
-use Rattle.std.proofs.Common.{◌≡◌, ◌&&◌, ◌==◌, ◌≤◌, Bool, true, false, ℕ, pos, Ordering, Less}
-use Rattle.std.proofs.Common.{Equal, Greater, List}
+use Rattle.std.proofs.Common.{◌≡◌, ◌&&◌, ◌==◌, ◌≤◌, Bool, true, false, ℕ, pos, Ordering}
+use Rattle.std.proofs.Common.{Equal, List}
 use Rattle.std.proofs.Common.{[]}
 use Rattle.std.proofs.Common.{◌∷◌, map, filter, length, refl, sym, ap, ap₂, subst, ◌∙◌, min, arith}
 use Rattle.std.proofs.Common.{nat_lt, true≢false}
 use Rattle.std.specs.Str.{bytes_eq}
-use Rattle.std.specs.Ordering.{is_lt, is_eq, nat_cmp, ordering_then}
+use Rattle.std.specs.Ordering.{is_lt, nat_cmp, ordering_then}
 use Rattle.std.specs.Cmp.Lexicographic.{slice_cmp}
 use Rattle.std.proofs.lemmas.Bool.{and_from, and_parts}
-use Rattle.std.proofs.lemmas.Map.Text.{is_eq-slice_cmp}
 use Rattle.sqlite_value.specs.declared.value.Value.TheVariants.{Int, Text}
 use Rattle.sqlite_value.specs.Order.{Row, value_cmp}
 use Rattle.sqlite_value.proofs.OrderLemmas.{then-Equal, value_cmp-Text}
@@ -32,9 +31,7 @@ use Rattle.acq_sql_rows.specs.Schema.{book_schema}
 use Rattle.acq_sql_rows.specs.Rows.{posting_row, leg_number}
 use Rattle.acq_sql_rows.specs.Tallies.{Running}
 use Rattle.acq_sql_rows.specs.Relation.{Holds, HoldsRows}
-use Rattle.acq_sql_rows.proofs.SameKeys.{bytes_same}
 use Rattle.acq_sql_reads.proofs.AboveTests.{number_above, text_behind}
-use Rattle.acq_sql_reads.proofs.KeyReads.{bytes_own}
 use Rattle.acq_sql_reads.proofs.PostingNumbers.{postings_on, one_numbered}
 use Rattle.acq_sql_reads.proofs.PostingsAbove.{above_greatest, greatest_number}
 use Rattle.acq_sql_reads.proofs.RequestRows.{leg_same}
@@ -45,7 +42,7 @@ use Rattle.acq_sql_reads.proofs.TextLemmas.{Asks}
 use Rattle.acq_sql_reads.proofs.Visiting.{AreOwn}
 use Rattle.acq_sql_reads.proofs.Walking.{ShowsList}
 use Rattle.acq_sql_reads.proofs.Ordering.{sorted_total, ordered_is, filter_both, numbers_compare}
-use Rattle.acq_sql_reads.proofs.Ordering.{fewer, in_order_has, numbers_tied}
+use Rattle.acq_sql_reads.proofs.Ordering.{fewer, in_order_has, numbers_tied, texts_tied, both_tied}
 
 abbrev Numbered : Type 0
 Numbered = ℕ × Posting
@@ -67,20 +64,11 @@ postings_compare a b =
 abbrev same_number : Numbered → Numbered → Bool
 same_number a b = bytes_eq b.1.merchant a.1.merchant && (b.0 == a.0)
 
-both_equal : (o p : Ordering) → ordering_then o p ≡ Equal → (o ≡ Equal) × (p ≡ Equal)
-both_equal Less p is = absurd (cc)
-both_equal Equal p is = (refl, is)
-both_equal Greater p is = absurd (cc)
-
 tied : (a b : Numbered) → by_number a b ≡ Equal → same_number a b ≡ true
 tied a b is =
-    let parts = both_equal _ _ (sym (postings_compare a b) ∙ is) in
-    let alike : bytes_eq a.1.merchant b.1.merchant ≡ true =
-    sym (is_eq-slice_cmp a.1.merchant b.1.merchant) ∙ ap is_eq parts.0 in
+    let parts = both_tied _ _ (sym (postings_compare a b) ∙ is) in
     and_from (bytes_eq b.1.merchant a.1.merchant) (b.0 == a.0)
-    (ap (λ m. bytes_eq b.1.merchant m) (bytes_same a.1.merchant b.1.merchant alike)
-    ∙ bytes_own b.1.merchant)
-    (numbers_tied a.0 b.0 parts.1)
+    (texts_tied a.1.merchant b.1.merchant parts.0) (numbers_tied a.0 b.0 parts.1)
 
 -- ---- one at most has a number
 

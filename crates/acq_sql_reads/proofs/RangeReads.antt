@@ -41,7 +41,7 @@ at_most_is a b h = grind (arith, nat_tests, h)
 below_is : (a b : ℕ) → nat_lt a b ≡ true → a < b
 below_is a b h = grind (arith, nat_tests, h)
 
-abbrev range_out : Range → Output
+abbrev pub range_out : Range → Output
 range_out r = (number r.low ∷ [], range_cells r)
 
 -- ---- the range of a prefix
@@ -212,7 +212,7 @@ module _ (low high : ℕ) where
 
 -- ---- the range that was read
 
-same_range : (a b : Range) → range_cells a ≡ range_cells b → a ≡ b
+pub same_range : (a b : Range) → range_cells a ≡ range_cells b → a ≡ b
 same_range a b h =
     let e1 : a.low ≡ b.low = cc in
     let e2 : a.high ≡ b.high = cc in

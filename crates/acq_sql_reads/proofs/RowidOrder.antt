@@ -1,6 +1,6 @@
--- What ORDER BY rowid gives of numbered rows: those that pass, in the order of their list.
-use Rattle.std.proofs.Common.{◌≡◌, ◌==◌, ◌<◌, ◌≤◌, ◌+◌, ℕ, zero, suc, pos, Bool, true, false}
-use Rattle.std.proofs.Common.{cond, List, [], ◌∷◌, drop, map, filter, length, nat_lt, refl, ap}
+-- Numbered rows that pass, each with its rowid, in the order of their list.
+use Rattle.std.proofs.Common.{◌≡◌, ◌<◌, ◌≤◌, ◌+◌, ℕ, zero, suc, pos, Bool, true, false}
+use Rattle.std.proofs.Common.{cond, List, [], ◌∷◌, drop, map, filter, nat_lt, refl, ap}
 use Rattle.std.proofs.Common.{◌∙◌, arith}
 use Rattle.std.specs.List.{AllByRecursion}
 use Rattle.std.proofs.lemmas.Bool.Decides.{nat_tests}
@@ -9,10 +9,7 @@ use Rattle.sqlite_value.specs.Order.{Row}
 use Rattle.sqlite_trees.specs.Tree.{IsAscending}
 use Rattle.sqlite_trees.proofs.ListLemmas.{ascending-filter}
 use Rattle.row_lemmas.specs.Numbered.{numbered_from}
-use Rattle.acq_book.specs.Order.{put_in_order, in_order}
-
-is_other : (m n : ℕ) → m < n → (n == m) ≡ false
-is_other m n low = grind (arith, nat_tests)
+use Rattle.acq_sql_reads.proofs.RisingNumbers.{Precedes}
 
 is_before : (m n : ℕ) → m < n → nat_lt m n ≡ true
 is_before m n low = grind (arith, nat_tests)
@@ -71,54 +68,19 @@ module _ {X : Type 0} where
 
   -- ---- the rowids rise
 
-  abbrev pub Precedes : ℕ × X → ℕ × X → Type 0
-  Precedes a b = a.0 < b.0
-
-  abbrev pub precedes : ℕ × X → ℕ × X → Bool
-  precedes a b = nat_lt a.0 b.0
+  abbrev Rises : List (ℕ × X) → Type 0
+  Rises = IsAscending (Precedes (λ (p : ℕ × X). p.0))
 
   all_after : (m n : ℕ) (xs : List X) → m < n → AllByRecursion (λ (p : ℕ × X). m < p.0)
       (placed_from n xs)
   all_after m n [] low = tt
   all_after m n (x ∷ xs) low = (low, all_after m (suc n) xs (omega arith))
 
-  placed_rise : (n : ℕ) (xs : List X) → IsAscending Precedes (placed_from n xs)
+  placed_rise : (n : ℕ) (xs : List X) → Rises (placed_from n xs)
   placed_rise n [] = tt
   placed_rise n (x ∷ xs) = (all_after n (suc n) xs (omega arith), placed_rise (suc n) xs)
 
   pub passing_rise : (q : ℕ × X → Bool) (n : ℕ) (xs : List X)
-      → IsAscending Precedes (filter q (placed_from n xs))
-  passing_rise q n xs = ascending-filter Precedes q (placed_from n xs) (placed_rise n xs)
-
-  -- ---- so none comes twice
-
-  none_again : (n : ℕ) (ps : List (ℕ × X)) → AllByRecursion (λ (p : ℕ × X). n < p.0) ps
-      → filter (λ (p : ℕ × X). p.0 == n) ps ≡ []
-  none_again n [] above = refl
-  none_again n (p ∷ ps) above = rw (is_other n p.0 above.0) (none_again n ps above.1)
-
-  pub once_placed : (n : ℕ) (ps : List (ℕ × X)) → IsAscending Precedes ps
-      → length (filter (λ (p : ℕ × X). p.0 == n) ps) ≤ 1
-  once_placed n [] up = omega arith
-  once_placed n (p ∷ ps) up = go (p.0 == n) refl (once_placed n ps up.1)
-    where
-      those : List (ℕ × X)
-      those = filter (λ (r : ℕ × X). r.0 == n) ps
-
-      go : (b : Bool) → (p.0 == n) ≡ b → length those ≤ 1 → length (cond b (p ∷ those) those) ≤ 1
-      go true is rest =
-          let same : p.0 ≡ n = grind (arith, nat_tests, is) in
-          rw (none_again n ps (rw same at up.0)) (omega arith)
-      go false is rest = rest
-
-  -- ---- and what rises is in order
-
-  first_put : (p : ℕ × X) (ps : List (ℕ × X)) → AllByRecursion (Precedes p) ps
-      → put_in_order precedes p ps ≡ p ∷ ps
-  first_put p [] above = refl
-  first_put p (r ∷ ps) above = rw (not_before p.0 r.0 (omega (arith, above.0))) refl
-
-  pub rising_in_order : (ps : List (ℕ × X)) → IsAscending Precedes ps → in_order precedes ps ≡ ps
-  rising_in_order [] up = refl
-  rising_in_order (p ∷ ps) up =
-      ap (put_in_order precedes p) (rising_in_order ps up.1) ∙ first_put p ps up.0
+      → Rises (filter q (placed_from n xs))
+  passing_rise q n xs =
+      ascending-filter (Precedes (λ (p : ℕ × X). p.0)) q (placed_from n xs) (placed_rise n xs)

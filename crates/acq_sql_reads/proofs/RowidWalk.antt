@@ -1,8 +1,6 @@
 -- What a walk over requests by rowid answers: those that pass, in the order of their list.
-use Rattle.std.proofs.Common.{◌≡◌, ◌==◌, Bool, true, ℕ, Ordering, Equal, List, [], ◌∷◌, map, filter}
-use Rattle.std.proofs.Common.{nat_lt, length, refl, sym, ap, ◌∙◌, arith}
-use Rattle.std.specs.Ordering.{is_lt, nat_cmp}
-use Rattle.std.proofs.lemmas.Bool.Decides.{nat_tests}
+use Rattle.std.proofs.Common.{◌≡◌, Bool, ℕ, List, [], ◌∷◌, map, filter, length, refl, sym, ap, ◌∙◌}
+use Rattle.std.specs.Ordering.{nat_cmp}
 use Rattle.sqlite_value.specs.Order.{Row, value_cmp}
 use Rattle.sqlite_value.proofs.OrderLemmas.{then-Equal}
 use Rattle.sqlite_sql.specs.Query.{Output, output_cmp}
@@ -21,11 +19,10 @@ use Rattle.acq_sql_rows.specs.Tallies.{Running}
 use Rattle.acq_sql_rows.specs.Relation.{HoldsRows, AreRecorded}
 use Rattle.acq_sql_reads.specs.Recorded.{IsRowOf}
 use Rattle.acq_sql_reads.specs.WalkQueries as query
-use Rattle.acq_sql_reads.proofs.Ordering.{sorted_total, ordered_is, numbers_compare}
-use Rattle.acq_sql_reads.proofs.Ordering.{numbers_tied}
+use Rattle.acq_sql_reads.proofs.Ordering.{numbers_compare}
 use Rattle.acq_sql_reads.proofs.RequestRows.{same_request}
-use Rattle.acq_sql_reads.proofs.RowidOrder.{placed_from, placed_row, rows_placed}
-use Rattle.acq_sql_reads.proofs.RowidOrder.{precedes, passing_rise, once_placed, rising_in_order}
+use Rattle.acq_sql_reads.proofs.RisingNumbers.{sorted_already}
+use Rattle.acq_sql_reads.proofs.RowidOrder.{placed_from, placed_row, rows_placed, passing_rise}
 use Rattle.acq_sql_reads.proofs.TextLemmas.{Asks, request_names}
 use Rattle.acq_sql_reads.proofs.Visiting.{AreOwn}
 
@@ -37,23 +34,9 @@ Placed = ℕ × Request
 abbrev out : Placed → Output
 out p = (number p.0 ∷ [], request_row p.1)
 
-abbrev by_rowid : Placed → Placed → Ordering
-by_rowid a b = output_cmp query.waiting_query (out a) (out b)
-
-less_test : (a b : ℕ) → is_lt (nat_cmp a b) ≡ nat_lt a b
-less_test a b = grind (arith, nat_tests)
-
-rowids_compare : (a b : Placed) → by_rowid a b ≡ nat_cmp a.0 b.0
+rowids_compare : (a b : Placed)
+    → output_cmp query.waiting_query (out a) (out b) ≡ nat_cmp a.0 b.0
 rowids_compare a b = then-Equal (value_cmp (number a.0) (number b.0)) ∙ numbers_compare a.0 b.0
-
-compare : (a b : Placed) → is_lt (by_rowid a b) ≡ precedes a b
-compare a b = ap is_lt (rowids_compare a b) ∙ less_test a.0 b.0
-
-abbrev same : Placed → Placed → Bool
-same a b = b.0 == a.0
-
-tied : (a b : Placed) → by_rowid a b ≡ Equal → same a b ≡ true
-tied a b is = numbers_tied a.0 b.0 (sym (rowids_compare a b) ∙ is)
 
 -- ---- those that pass
 
@@ -67,7 +50,6 @@ module _ (sql : List ℕ) (params : Row) (test : List Term)
       let it = query.query_of_requests test in
       let placed = placed_from 1 t.requests in
       let passing = filter passes placed in
-      let rise = passing_rise passes 1 t.requests in
       let all = shows_keyed (placed_row request_row) (book_schema has.schema.0) 6 placed old old
       has.schema.1
       (has.requests ∙ rows_placed request_row 1 t.requests) sql
@@ -77,9 +59,8 @@ module _ (sql : List ℕ) (params : Row) (test : List Term)
       (λ p. refl) (ask.is has.schema.0) in
       all.3
       ∙ ap (map (λ (p : Placed). request_row p.1))
-      (ordered_is by_rowid (sorted_total query.waiting_query out) precedes compare same tied
-      passing all.0 all.1 all.2 (λ a. once_placed a.0 passing rise)
-      ∙ rising_in_order passing rise)
+      (sorted_already (λ (p : Placed). p.0) query.waiting_query out rowids_compare passing all.0
+      all.1 all.2 (passing_rise passes 1 t.requests))
 
 -- ---- a row is one request's
 

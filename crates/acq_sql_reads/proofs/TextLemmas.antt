@@ -65,7 +65,7 @@ running_asks = record {
   begins = refl;
 }
 
-abbrev range_names : List (List ℕ)
+abbrev pub range_names : List (List ℕ)
 range_names = codes "low" ∷ codes "high" ∷ codes "issuer" ∷ codes "hold_days" ∷ []
 
 pub nearest_asks : Asks text.nearest_text query.nearest_query range_names

@@ -3,7 +3,7 @@ use Rattle.std.proofs.Common.{ℕ, List, refl, [], ◌∷◌, codes}
 use Rattle.sqlite_tied.specs.Compute.{everything}
 use Rattle.sqlite.specs.Listing.{understood}
 use Rattle.acq_sql_rows.specs.Schema.{book_schema}
-use Rattle.acq_sql_reads.proofs.TextLemmas.{Asks, request_names}
+use Rattle.acq_sql_reads.proofs.TextLemmas.{Asks, range_names, request_names}
 use Rattle.acq_sql_reads.specs.WalkTexts as text
 use Rattle.acq_sql_reads.specs.WalkQueries as query
 
@@ -44,6 +44,25 @@ pub merchants_asks :
     (codes "merchant" ∷ codes "currency" ∷ codes "first" ∷ [])
 unfolding understood everything book_schema
 merchants_asks = record {
+  is = λ form. refl;
+  plain = λ form. (refl, refl);
+  unlisted = λ form. refl;
+  begins = refl;
+}
+
+pub terminals_asks : Asks text.terminals_text query.terminals_query
+    (codes "merchant" ∷ codes "terminal" ∷ [])
+unfolding understood everything book_schema
+terminals_asks = record {
+  is = λ form. refl;
+  plain = λ form. (refl, refl);
+  unlisted = λ form. refl;
+  begins = refl;
+}
+
+pub ranges_asks : Asks text.ranges_text query.ranges_query range_names
+unfolding understood everything book_schema
+ranges_asks = record {
   is = λ form. refl;
   plain = λ form. (refl, refl);
   unlisted = λ form. refl;

@@ -16,11 +16,12 @@ use Rattle.acq_core.specs.declared.merchant.Merchant.{Merchant}
 use Rattle.acq_core.specs.declared.posting.Posting.{Posting}
 use Rattle.acq_core.specs.declared.reconciliation.Reconciliation.{Reconciliation}
 use Rattle.acq_core.specs.declared.request.Request.{Request}
+use Rattle.acq_core.specs.declared.terminal.Terminal.{Terminal}
 use Rattle.acq_core.specs.Pasts.{HasPast}
 use Rattle.acq_core.specs.Tables.{Tables}
 use Rattle.acq_book.specs.Lookups.{merchant_at}
-use Rattle.acq_soundness.specs.Rows.{FitsMerchant, FitsPosting, FitsRequest}
-use Rattle.acq_sql_rows.specs.Rows.{version, merchant_row, posting_row, tally_row}
+use Rattle.acq_soundness.specs.Rows.{FitsMerchant, FitsPosting, FitsRequest, FitsTerminal}
+use Rattle.acq_sql_rows.specs.Rows.{version, merchant_row, posting_row, tally_row, terminal_row}
 use Rattle.acq_sql_rows.specs.Tallies.{Tally}
 use Rattle.acq_sql_rows.specs.Standing.{FailsExcusedAt, IsOpenOver}
 use Rattle.acq_sql_reads.specs.Looked.{balance_cells, range_cells}
@@ -49,6 +50,10 @@ FailsOnlyExcusedWhere old new result fits =
 -- the row is that of a merchant whose columns are such as a book has
 abbrev pub IsMerchantRow : Row → Type 0
 IsMerchantRow row = (m : Merchant) × (row ≡ merchant_row m) × FitsMerchant m
+
+-- the row is that of a terminal whose columns are such as a book has
+abbrev pub IsTerminalRow : Row → Type 0
+IsTerminalRow row = (x : Terminal) × (row ≡ terminal_row x) × FitsTerminal x
 
 -- the row is that of a day's running totals, within the limits of a day
 abbrev pub IsTallyRow : Row → Type 0

@@ -9,6 +9,7 @@ use Rattle.sqlite_sql.specs.Query.{Query}
 use Rattle.row_lemmas.specs.Values.{number}
 use Rattle.row_lemmas.specs.Queries.{plain_query, column, param, is_param, rising}
 use Rattle.acq_sql_rows.specs.Queries.{columns}
+use Rattle.acq_sql_reads.specs.Queries.{range_columns}
 
 -- postings that pass, by merchant, and of one merchant by number
 abbrev pub query_of_postings : List Term → Query
@@ -34,6 +35,14 @@ behind_query = query_of_postings (is_param 2 0 ∷ is_from 1 1 ∷ [])
 
 abbrev pub merchants_query : Query
 merchants_query = plain_query 1 [] (columns 1 3) ((column 1, rising) ∷ [])
+
+-- by merchant, and of one merchant by name
+abbrev pub terminals_query : Query
+terminals_query = plain_query 3 [] (columns 1 2) ((column 1, rising) ∷ (column 2, rising) ∷ [])
+
+-- low is the rowid
+abbrev pub ranges_query : Query
+ranges_query = plain_query 5 [] range_columns ((column 0, rising) ∷ [])
 
 -- a status is this one
 abbrev pub has_status : ℕ → Term

@@ -1,8 +1,8 @@
 -- The texts of the walks.
 use Rattle.std.specs.Prelude.{List, ℕ}
 use Rattle.acq_sql_reads.specs.declared.walks.TheConstants.{POSTINGS, ABOVE, BEHIND}
-use Rattle.acq_sql_reads.specs.declared.walks.TheConstants.{MERCHANTS, HOLDS, WAITING}
-use Rattle.acq_sql_reads.specs.declared.walks.TheConstants.{REQUESTS_BEHIND}
+use Rattle.acq_sql_reads.specs.declared.walks.TheConstants.{MERCHANTS, TERMINALS, RANGES}
+use Rattle.acq_sql_reads.specs.declared.walks.TheConstants.{HOLDS, WAITING, REQUESTS_BEHIND}
 
 abbrev pub postings_text : List ℕ
 postings_text = POSTINGS.now
@@ -15,6 +15,12 @@ behind_text = BEHIND.now
 
 abbrev pub merchants_text : List ℕ
 merchants_text = MERCHANTS.now
+
+abbrev pub terminals_text : List ℕ
+terminals_text = TERMINALS.now
+
+abbrev pub ranges_text : List ℕ
+ranges_text = RANGES.now
 
 -- an approved authorization: its kind is 010, and its status 3
 abbrev pub holds_text : List ℕ

@@ -8,14 +8,14 @@ ghost use Rattle.sqlite_value.specs.declared.value.Value.TheVariants.{Text};
 ghost use Rattle.sqlite_value.specs.Order.{column};
 ghost use Rattle.row_lemmas.specs.Values.{number, number_or_null};
 ghost use Rattle.day_totals.specs.Day.{IsDayNumber};
-ghost use Rattle.acq_message.specs.Names.{is_merchant, is_currency};
+ghost use Rattle.acq_message.specs.Names.{is_merchant, is_terminal, is_currency};
 ghost use Rattle.acq_message.specs.Numbers.{is_amount, is_reference};
 ghost use Rattle.acq_core.specs.Numbers.{is_first_reference, is_limit, is_used_count};
 ghost use Rattle.acq_sql_rows.specs.Rows.{leg_number, bit_of};
 ghost use Rattle.acq_sql_reads.specs.Failing.{FailsForMemory, NeedsText};
 
 use acq_core::{FirstReference, Limit, UsedCount};
-use acq_message::{Amount, Currency, MerchantId, Reference};
+use acq_message::{Amount, Currency, MerchantId, Reference, TerminalId};
 use card_no::IssuerId;
 use day_totals::{Day, Leg};
 use sqlite::types::ValueRef;
@@ -54,6 +54,16 @@ pub fn merchant_at(row: &Row, at: usize) -> Result<MerchantId, Error>
     ensures kind { IfErr result (λ e. e ≢ SqliteFailure OutOfMemory) }
 {
     read(MerchantId::read(text_at(row, at)?))
+}
+
+/// The terminal's name in a column.
+pub fn terminal_at(row: &Row, at: usize) -> Result<TerminalId, Error>
+    ensures value { IfOk result (λ id. column row.now at ≡ Text id) }
+    ensures fails { IfErr result (λ e. (id : List ℕ) → column row.now at ≡ Text id
+        → is_terminal id ≢ true) }
+    ensures kind { IfErr result (λ e. e ≢ SqliteFailure OutOfMemory) }
+{
+    read(TerminalId::read(text_at(row, at)?))
 }
 
 /// The currency in a column.

@@ -6,13 +6,14 @@ ghost use Rattle.sqlite.specs.State.{HasCleanDisk};
 ghost use Rattle.sqlite.specs.Held.{state};
 ghost use Rattle.acq_core.specs.Tables.{Tables};
 ghost use Rattle.acq_book.specs.Lookups.{merchant_at, has_terminal_at};
-ghost use Rattle.acq_sql_rows.specs.Rows.{merchant_row};
+ghost use Rattle.acq_sql_rows.specs.Rows.{merchant_row, terminal_row};
 ghost use Rattle.acq_sql_rows.specs.Relation.{Holds};
 ghost use Rattle.acq_sql_reads.specs.Looked.{Answers, LooksOnly, is_any};
 ghost use Rattle.acq_sql_reads.specs.Failing.{FailsForMemory, FailsOnlyExcused, IsMerchantRow};
+ghost use Rattle.acq_sql_reads.specs.Failing.{IsTerminalRow};
 
-use crate::columns::{currency_at, first_reference_at, merchant_at};
-use acq_core::Merchant;
+use crate::columns::{currency_at, first_reference_at, merchant_at, terminal_at};
+use acq_core::{Merchant, Terminal};
 use acq_message::{MerchantId, TerminalId};
 use sqlite::types::ValueRef;
 use sqlite::{Alter, Connection, Error, Row};
@@ -93,4 +94,15 @@ fn terminal_rows<S: Alter>(
     let merchant = merchant.to_bytes();
     let id = id.to_bytes();
     conn.query_all(TERMINAL, &[ValueRef::Text(&merchant), ValueRef::Text(&id)])
+}
+
+/// The terminal of a row with the two columns.
+pub(crate) fn read_terminal(row: &Row) -> Result<Terminal, Error>
+    ensures value { IfOk result (λ x. length row.now ≡ 2 → row.now ≡ terminal_row x) }
+    ensures fails { IsTerminalRow row.now → FailsForMemory result }
+{
+    Ok(Terminal {
+        merchant: merchant_at(row, 0)?,
+        id: terminal_at(row, 1)?,
+    })
 }

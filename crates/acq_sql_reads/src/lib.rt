@@ -35,5 +35,5 @@ pub use requests::{by_reference, request};
 pub use running::{totals, used};
 pub use walks::{
     walk_holds, walk_merchants, walk_pending, walk_postings, walk_postings_above,
-    walk_postings_behind, walk_requests_behind,
+    walk_postings_behind, walk_ranges, walk_requests_behind, walk_terminals,
 };

@@ -7,9 +7,11 @@ ghost use Rattle.card_no.specs.CardNumbers.{is_valid_card};
 ghost use Rattle.acq_sql_rows.specs.Rows.{posting_row};
 ghost use Rattle.acq_sql_reads.specs.Failing.{FailsForMemory, IsPostingRow, NeedsText};
 
-use crate::columns::{amount_at, day_at, leg_at, merchant_at, read, reference_at, text_at};
+use crate::columns::{
+    amount_at, day_at, leg_at, merchant_at, read, reference_at, terminal_at, text_at,
+};
 use acq_core::Posting;
-use acq_message::{ElementContent, TerminalId, Trace};
+use acq_message::{ElementContent, Trace};
 use card_no::CardNumber;
 use sqlite::{Error, ErrorCode, Row};
 use std::alloc::Global;
@@ -25,7 +27,7 @@ pub(crate) fn read_posting(alloc: Global, row: &Row) -> Result<(u64, Posting), E
     let leg = leg_at(row, 3)?;
     let amount = amount_at(row, 4)?;
     let reference = reference_at(row, 5)?;
-    let terminal = read(TerminalId::read(text_at(row, 7)?))?;
+    let terminal = terminal_at(row, 7)?;
     let trace = read(Trace::read(text_at(row, 8)?))?;
     let card = card_at(alloc, row, 6)?;
     Ok((

@@ -92,7 +92,8 @@ fn overlapping_rows<S: Alter>(
     conn.query_all(OVERLAPPING, &[short_value(low), short_value(high)])
 }
 
-fn read_range(alloc: Global, row: &Row) -> Result<Range, Error>
+/// The range of a row with the four columns.
+pub(crate) fn read_range(alloc: Global, row: &Row) -> Result<Range, Error>
     ensures value { IfOk result (λ r. length row.now ≡ 4 → row.now ≡ range_cells r) }
     ensures fails { IsRangeRow row.now → FailsForMemory result }
 {

@@ -2,14 +2,18 @@
 
 ghost use Rattle.std.specs.Prelude.{◌≡◌, length, IfOk};
 ghost use Rattle.sqlite_value.specs.Order.{Row as Cells};
-ghost use Rattle.acq_sql_rows.specs.Rows.{merchant_row, posting_row};
+ghost use Rattle.acq_sql_rows.specs.Rows.{merchant_row, terminal_row, posting_row};
 ghost use Rattle.acq_sql_reads.specs.Recorded.{IsRowOf};
-ghost use Rattle.acq_sql_reads.specs.Failing.{FailsForMemory, IsMerchantRow, IsPostingRow};
-ghost use Rattle.acq_sql_reads.specs.Failing.{IsRequestRow};
+ghost use Rattle.acq_sql_reads.specs.Looked.{range_cells};
+ghost use Rattle.acq_sql_reads.specs.Failing.{FailsForMemory, IsMerchantRow, IsTerminalRow};
+ghost use Rattle.acq_sql_reads.specs.Failing.{IsPostingRow, IsRangeRow, IsRequestRow};
 
+use crate::enrolments::read_terminal;
 use crate::posting_row::read_posting;
+use crate::ranges::read_range;
 use crate::{read_merchant, read_request};
-use acq_core::{Merchant, Posting, Request};
+use acq_core::{Merchant, Posting, Request, Terminal};
+use card_no::Range;
 use sqlite::{Error, ErrorCode, Row};
 use std::alloc::Global;
 
@@ -38,6 +42,36 @@ impl ReadRow<Merchant> for MerchantRows {
 
     fn read(&self, row: &Row) -> Result<Merchant, Error> {
         read_merchant(row)
+    }
+}
+
+/// Terminals.
+#[derive(Drop)]
+pub(crate) struct TerminalRows;
+
+impl ReadRow<Terminal> for TerminalRows {
+    ghost shows = { λ row x. length row ≡ 2 → row ≡ terminal_row x };
+
+    ghost fits = { IsTerminalRow };
+
+    fn read(&self, row: &Row) -> Result<Terminal, Error> {
+        read_terminal(row)
+    }
+}
+
+/// Ranges.
+#[derive(Drop)]
+pub(crate) struct RangeRows {
+    pub(crate) alloc: Global,
+}
+
+impl ReadRow<Range> for RangeRows {
+    ghost shows = { λ row r. length row ≡ 4 → row ≡ range_cells r };
+
+    ghost fits = { IsRangeRow };
+
+    fn read(&self, row: &Row) -> Result<Range, Error> {
+        read_range(self.alloc, row)
     }
 }
 

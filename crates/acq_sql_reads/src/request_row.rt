@@ -17,12 +17,11 @@ ghost use Rattle.acq_sql_reads.specs.Recorded.{NamesNoService, NumbersStatus};
 ghost use Rattle.acq_sql_reads.specs.Failing.{FailsForMemory, IsRequestRow, NeedsText};
 
 use crate::columns::{
-    amount_at, bit_at, day_at, hold_days_at, leg_at, merchant_at, read, reference_if_at, text_at,
+    amount_at, bit_at, day_at, hold_days_at, leg_at, merchant_at, read, reference_if_at,
+    terminal_at, text_at,
 };
 use acq_core::{Request, Status};
-use acq_message::{
-    ElementContent, MessageText, RequestKey, Service, TerminalId, Trace, Transmission,
-};
+use acq_message::{ElementContent, MessageText, RequestKey, Service, Trace, Transmission};
 use iso_codec::{DecodeFault, Message, decode};
 use sqlite::types::ValueRef;
 use sqlite::{Error, ErrorCode, Row};
@@ -73,7 +72,7 @@ fn read_key(row: &Row) -> Result<RequestKey, Error>
 {
     Ok(RequestKey {
         merchant: merchant_at(row, 0)?,
-        terminal: read(TerminalId::read(text_at(row, 1)?))?,
+        terminal: terminal_at(row, 1)?,
         service: service_at(row, 2)?,
         trace: read(Trace::read(text_at(row, 3)?))?,
         transmission: read(Transmission::read(text_at(row, 4)?))?,

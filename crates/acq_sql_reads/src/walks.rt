@@ -1,23 +1,28 @@
-//! Walks over postings, merchants, holds and the requests that wait for an answer.
+//! Walks over postings, merchants, terminals, ranges, holds and the requests that wait for an
+//! answer.
 
 ghost use Rattle.std.specs.Prelude.{◌≡◌, ◌-◌, ◌^◌, ◌++◌, ◌∷◌, [], is_ok, min};
 ghost use Rattle.sqlite.specs.Held.{state};
 ghost use Rattle.sqlite_value.specs.Value.{owned};
 ghost use Rattle.row_lemmas.specs.Values.{number};
 ghost use Rattle.acq_core.specs.Pasts.{HasPast};
-ghost use Rattle.acq_book.specs.Lookups.{holds_at, merchants_at, waiting_at, requests_behind_at};
+ghost use Rattle.acq_book.specs.Lookups.{merchants_at, terminals_at, ranges_at};
+ghost use Rattle.acq_book.specs.Lookups.{holds_at, waiting_at, requests_behind_at};
 ghost use Rattle.acq_book.specs.Lookups.{postings_at, postings_above_at, postings_behind_at};
 ghost use Rattle.acq_book.specs.Visits.{SawRows};
 ghost use Rattle.acq_sql_reads.specs.Failing.{AreNumbered, CanBeWalked, FailsOnlyExcusedWhere};
 ghost use Rattle.acq_sql_reads.specs.Looked.{LooksOnly};
 ghost use Rattle.acq_sql_reads.specs.Walked.{WalksAll, WalksSome, WalksAllWhere, WalksSomeWhere};
 
-use crate::read_row::{MerchantRows, NoRequestRows, PostingRows, RequestRows};
+use crate::read_row::{
+    MerchantRows, NoRequestRows, PostingRows, RangeRows, RequestRows, TerminalRows,
+};
 use crate::show_rows::show_rows;
 use acq_book::Visit;
-use acq_core::{Merchant, Posting, Request};
+use acq_core::{Merchant, Posting, Request, Terminal};
 use acq_message::MerchantId;
 use acq_sql_rows::{day_value, number_value};
+use card_no::Range;
 use day_totals::Day;
 use sqlite::types::ValueRef;
 use sqlite::{Alter, Connection, Error};
@@ -34,6 +39,10 @@ const BEHIND: &str = "SELECT merchant, day, number, leg, amount, reference, card
     trace FROM postings WHERE day = ?1 AND merchant >= ?2 ORDER BY merchant, number";
 
 const MERCHANTS: &str = "SELECT merchant, currency, first FROM merchants ORDER BY merchant";
+
+const TERMINALS: &str = "SELECT merchant, terminal FROM terminals ORDER BY merchant, terminal";
+
+const RANGES: &str = "SELECT low, high, issuer, hold_days FROM ranges ORDER BY low";
 
 const HOLDS: &str = "SELECT merchant, terminal, kind, trace, stamp, essence, day, status, \
     admitted, reference, follows, amount, leg, card, acquirer, hold_days, until, reply \
@@ -169,6 +178,41 @@ pub fn walk_merchants<S: Alter, V: Visit<Merchant>>(
         (λ t. CanBeWalked (merchants_at t)) }
 {
     show_rows(conn, MERCHANTS, &[], &MerchantRows, visitor)
+}
+
+/// Hands over the terminals of all merchants, in order of merchant and name.
+pub fn walk_terminals<S: Alter, V: Visit<Terminal>>(
+    conn: &mut Connection<S>,
+    visitor: &mut V,
+) -> Result<(), Error>
+    ensures seen { WalksAll (state S.Store conn.old) (state S.Store conn.new) result
+        V.sees terminals_at visitor.old visitor.new }
+    ensures begun { WalksSome (state S.Store conn.old) (state S.Store conn.new) result
+        V.sees terminals_at visitor.old visitor.new }
+    ensures shown { SawRows V.sees visitor.old visitor.new (is_ok result) }
+    ensures looks { LooksOnly (state S.Store conn.old) (state S.Store conn.new) (is_ok result) }
+    ensures fails { FailsOnlyExcusedWhere (state S.Store conn.old) (state S.Store conn.new) result
+        (λ t. CanBeWalked (terminals_at t)) }
+{
+    show_rows(conn, TERMINALS, &[], &TerminalRows, visitor)
+}
+
+/// Hands over the ranges, in order of low.
+pub fn walk_ranges<S: Alter, V: Visit<Range>>(
+    conn: &mut Connection<S>,
+    alloc: Global,
+    visitor: &mut V,
+) -> Result<(), Error>
+    ensures seen { WalksAll (state S.Store conn.old) (state S.Store conn.new) result
+        V.sees ranges_at visitor.old visitor.new }
+    ensures begun { WalksSome (state S.Store conn.old) (state S.Store conn.new) result
+        V.sees ranges_at visitor.old visitor.new }
+    ensures shown { SawRows V.sees visitor.old visitor.new (is_ok result) }
+    ensures looks { LooksOnly (state S.Store conn.old) (state S.Store conn.new) (is_ok result) }
+    ensures fails { FailsOnlyExcusedWhere (state S.Store conn.old) (state S.Store conn.new) result
+        (λ t. CanBeWalked (ranges_at t)) }
+{
+    show_rows(conn, RANGES, &[], &RangeRows { alloc }, visitor)
 }
 
 /// Hands over a merchant's approved holds, which are neither completed nor reversed, in order of

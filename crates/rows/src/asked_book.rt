@@ -3,7 +3,7 @@
 use acq_book::{Book, BookFault, Visit};
 use acq_core::{
     Change, Currency, FirstReference, Limit, Looked, Merchant, MerchantId, Posting, Reconciliation,
-    Request, Wanted,
+    Request, Terminal, Wanted,
 };
 use acq_recall::Lenient;
 use card_no::{IssuerId, Range};
@@ -190,6 +190,14 @@ impl Book for AskedBook {
     }
 
     fn walk_merchants<V: Visit<Merchant>>(&mut self, _visitor: &mut V) -> Result<(), BookFault> {
+        Ok(())
+    }
+
+    fn walk_terminals<V: Visit<Terminal>>(&mut self, _visitor: &mut V) -> Result<(), BookFault> {
+        Ok(())
+    }
+
+    fn walk_ranges<V: Visit<Range>>(&mut self, _visitor: &mut V) -> Result<(), BookFault> {
         Ok(())
     }
 

@@ -3,7 +3,10 @@
 ghost use Rattle.std.specs.Prelude.{◌≡◌};
 
 use acq_book::{Book, BookFault, Visit};
-use acq_core::{Change, Looked, Merchant, MerchantId, Posting, Reconciliation, Request, Wanted};
+use acq_core::{
+    Change, Looked, Merchant, MerchantId, Posting, Reconciliation, Request, Terminal, Wanted,
+};
+use card_no::Range;
 use day_totals::Day;
 
 /// A book that refuses one call that changes it, as where memory runs out there: a change, or a
@@ -167,6 +170,14 @@ impl<B: Book + Drop> Book for FailingBook<B> {
 
     fn walk_merchants<V: Visit<Merchant>>(&mut self, visitor: &mut V) -> Result<(), BookFault> {
         self.book.walk_merchants(visitor)
+    }
+
+    fn walk_terminals<V: Visit<Terminal>>(&mut self, visitor: &mut V) -> Result<(), BookFault> {
+        self.book.walk_terminals(visitor)
+    }
+
+    fn walk_ranges<V: Visit<Range>>(&mut self, visitor: &mut V) -> Result<(), BookFault> {
+        self.book.walk_ranges(visitor)
     }
 
     fn walk_holds<V: Visit<Request>>(

@@ -5,11 +5,15 @@ ghost use Rattle.std.specs.Map.Iter.{deref};
 ghost use Rattle.acq_book.specs.Lookups.{terminal_count_at, range_count_at, used_on_at, pending_at};
 ghost use Rattle.acq_book.specs.Lookups.{waiting_count_at, last_reconciliation_at};
 ghost use Rattle.acq_book.specs.Lookups.{postings_at, postings_above_at, postings_behind_at};
-ghost use Rattle.acq_book.specs.Lookups.{merchants_at, holds_at, waiting_at, requests_behind_at};
+ghost use Rattle.acq_book.specs.Lookups.{merchants_at, terminals_at, ranges_at};
+ghost use Rattle.acq_book.specs.Lookups.{holds_at, waiting_at, requests_behind_at};
 
 use crate::list_tables::ListTables;
-use crate::walks::{in_order_of_names, in_order_of_numbers, in_order_of_references};
-use acq_core::{Merchant, MerchantId, Posting, Reconciliation, Request};
+use crate::walks::{
+    in_order_of_names, in_order_of_numbers, in_order_of_references, in_order_of_terminals,
+};
+use acq_core::{Merchant, MerchantId, Posting, Reconciliation, Request, Terminal};
+use card_no::Range;
 use day_totals::Day;
 use std::alloc::AllocError;
 
@@ -97,6 +101,20 @@ impl ListTables {
         ensures { IfOk result (λ rows. map deref rows.items ≡ merchants_at self.now) }
     {
         in_order_of_names(self.merchants.all(self.alloc))
+    }
+
+    /// The terminals of all merchants, in order of merchant and name.
+    pub(crate) fn terminals(&self) -> Result<Vec<&Terminal>, AllocError>
+        ensures { IfOk result (λ rows. map deref rows.items ≡ terminals_at self.now) }
+    {
+        in_order_of_terminals(self.terminals.all(self.alloc))
+    }
+
+    /// The ranges, in order of low.
+    pub(crate) fn ranges(&self) -> Result<Vec<&Range>, AllocError>
+        ensures { IfOk result (λ rows. map deref rows.items ≡ ranges_at self.now) }
+    {
+        self.ranges.as_slice().iter().collect(self.alloc)
     }
 
     /// The merchant's approved holds, in order of reference.

@@ -41,8 +41,6 @@ returns-clause-value c len =
     )
     len c.in_ok-merchant.ensures.value c.in_ok-day.ensures.value c.in_ok-number.ensures.ok.1
     c.in_ok-leg.ensures.value c.in_ok-amount.ensures.value c.in_ok-reference.ensures.value
-    c.in_ok-card.ensures.value
-    (text_taken c.read.result _ c.in_ok-text_at.field-0.now c.in_ok-terminal.terminal _
-    c.in_ok-text_at.ensures.value c.read.ensures c.in_ok-terminal.ensures.value)
-    (text_taken c.read-3.result _ c.in_ok-text_at-2.field-0.now c.in_ok-trace.trace _
-    c.in_ok-text_at-2.ensures.value c.read-3.ensures c.in_ok-trace.ensures.value)
+    c.in_ok-card.ensures.value c.in_ok-terminal.ensures.value
+    (text_taken c.read.result _ c.in_ok-text_at.field-0.now c.in_ok-trace.trace _
+    c.in_ok-text_at.ensures.value c.read.ensures c.in_ok-trace.ensures.value)
