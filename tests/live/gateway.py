@@ -497,11 +497,17 @@ def told_of_none(program):
             host.end()
 
 
+def figures_of(host):
+    """How many gateways are connected by its status, and how often rows were missing."""
+    figures = host.figures()
+    return figures["gateways"], figures["rows_missing_total"]
+
+
 def rows_missing(program):
-    """A `from` above the last row is told, also on standard error and in the log, and nothing is
-    streamed until another."""
+    """A `from` above the last row is told, also on standard error, in the log and by the status, and
+    nothing is streamed until another."""
     with Book(program) as book:
-        with GatewayHost(book, log=True) as host:
+        with GatewayHost(book, control=True, log=True) as host:
             with host.terminal() as one:
                 wanted("its reply", one.ask(sale()), UNANSWERED)
             with Gateway(host.gateway_path) as gateway:
@@ -513,6 +519,8 @@ def rows_missing(program):
                 wanted("what is far above", gateway.ask("from,999999999999"),
                        "acqd: 65 RowsMissing 1")
                 wanted("what comes of 0", gateway.ask("from,0"), advice(1, "timeout"))
+                wanted("what a status has of them", figures_of(host), ("1", "2"))
+            when("a status has it still", lambda: figures_of(host) == ("0", "2"))
             host.end()
         told = [it for it in log_lines(host.log()) if it["event"] == "rows-missing"]
         for it in told:

@@ -2,12 +2,12 @@
 use Rattle.std.specs.Prelude.{ℕ, List, codes}
 use Rattle.acq_status.specs.declared.figure.Figure.{Figure}
 use Rattle.acq_status.specs.declared.figure.Figure.TheVariants.{BookBytes, BusinessDay}
-use Rattle.acq_status.specs.declared.figure.Figure.TheVariants.{Connections, Events}
+use Rattle.acq_status.specs.declared.figure.Figure.TheVariants.{Connections, Events, Gateways}
 use Rattle.acq_status.specs.declared.figure.Figure.TheVariants.{LastEventAge, Limit, Lines}
 use Rattle.acq_status.specs.declared.figure.Figure.TheVariants.{LostLines, Merchants}
 use Rattle.acq_status.specs.declared.figure.Figure.TheVariants.{OldestPendingAge, OpenPlaces}
 use Rattle.acq_status.specs.declared.figure.Figure.TheVariants.{Pending, Places, Ranges}
-use Rattle.acq_status.specs.declared.figure.Figure.TheVariants.{RefusedFrames, Replies}
+use Rattle.acq_status.specs.declared.figure.Figure.TheVariants.{RefusedFrames, Replies, RowsMissing}
 use Rattle.acq_status.specs.declared.figure.Figure.TheVariants.{ReplySeconds, RequestsToday}
 use Rattle.acq_status.specs.declared.figure.Figure.TheVariants.{Terminals, UnansweredLate}
 use Rattle.acq_status.specs.declared.figure.Figure.TheVariants.{UnansweredUnserved}
@@ -31,6 +31,8 @@ key_of UnansweredUnserved = codes "unanswered_unserved_total"
 key_of UnansweredWaiting = codes "unanswered_waiting_total"
 key_of UnansweredLate = codes "unanswered_late_total"
 key_of LostLines = codes "log_lines_lost_total"
+key_of Gateways = codes "gateways"
+key_of RowsMissing = codes "rows_missing_total"
 key_of LastEventAge = codes "last_event_age_seconds"
 key_of OldestPendingAge = codes "oldest_pending_age_seconds"
 key_of BookBytes = codes "book_bytes"
@@ -56,6 +58,8 @@ help_of UnansweredUnserved = codes "Messages of a type that isn't served."
 help_of UnansweredWaiting = codes "Repeats of requests that wait for their issuer."
 help_of UnansweredLate = codes "Messages reversed before their issuer answered."
 help_of LostLines = codes "Lines of the log that were lost."
+help_of Gateways = codes "Gateways to issuers that are connected."
+help_of RowsMissing = codes "Times that a gateway asked behind more rows than there are."
 help_of LastEventAge = codes "Time since a terminal's message was last taken."
 help_of OldestPendingAge = codes "Time since the first that waits was first seen."
 help_of BookBytes = codes "Bytes of the book's file."
@@ -72,6 +76,7 @@ kind_of UnansweredUnserved = codes "counter"
 kind_of UnansweredWaiting = codes "counter"
 kind_of UnansweredLate = codes "counter"
 kind_of LostLines = codes "counter"
+kind_of RowsMissing = codes "counter"
 kind_of Replies = codes "counter"
 kind_of ReplySeconds = codes "histogram"
 kind_of other = codes "gauge"

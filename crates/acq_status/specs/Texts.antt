@@ -38,10 +38,11 @@ missing_readings c lost_lines =
     reading figure.UnansweredUnserved c.unserved ∷ reading figure.UnansweredWaiting c.waiting
     ∷ reading figure.UnansweredLate c.late ∷ reading figure.LostLines lost_lines ∷ []
 
--- ages, and how much the book's files hold
+-- of gateways, ages, and how much the book's files hold
 abbrev pub known_readings : Serving → List Reading
 known_readings s =
-    known_reading figure.LastEventAge s.last_event_age
+    known_reading figure.Gateways s.gateways ++ known_reading figure.RowsMissing s.rows_missing
+    ++ known_reading figure.LastEventAge s.last_event_age
     ++ known_reading figure.OldestPendingAge s.oldest_pending_age
     ++ known_reading figure.BookBytes s.book_bytes ++ known_reading figure.WalBytes s.wal_bytes
 

@@ -24,6 +24,8 @@ pub enum Figure {
     UnansweredWaiting,
     UnansweredLate,
     LostLines,
+    Gateways,
+    RowsMissing,
     LastEventAge,
     OldestPendingAge,
     BookBytes,
@@ -56,6 +58,8 @@ impl Figure {
             Figure::UnansweredWaiting => "unanswered_waiting_total",
             Figure::UnansweredLate => "unanswered_late_total",
             Figure::LostLines => "log_lines_lost_total",
+            Figure::Gateways => "gateways",
+            Figure::RowsMissing => "rows_missing_total",
             Figure::LastEventAge => "last_event_age_seconds",
             Figure::OldestPendingAge => "oldest_pending_age_seconds",
             Figure::BookBytes => "book_bytes",
@@ -87,6 +91,8 @@ impl Figure {
             Figure::UnansweredWaiting => "Repeats of requests that wait for their issuer.",
             Figure::UnansweredLate => "Messages reversed before their issuer answered.",
             Figure::LostLines => "Lines of the log that were lost.",
+            Figure::Gateways => "Gateways to issuers that are connected.",
+            Figure::RowsMissing => "Times that a gateway asked behind more rows than there are.",
             Figure::LastEventAge => "Time since a terminal's message was last taken.",
             Figure::OldestPendingAge => "Time since the first that waits was first seen.",
             Figure::BookBytes => "Bytes of the book's file.",
@@ -109,6 +115,7 @@ impl Figure {
             | Figure::UnansweredWaiting
             | Figure::UnansweredLate
             | Figure::LostLines
+            | Figure::RowsMissing
             | Figure::Replies => "counter",
             Figure::ReplySeconds => "histogram",
             _ => "gauge",

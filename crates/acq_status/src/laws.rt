@@ -20,7 +20,8 @@ pub fn worked_status()
         ++ codes "requests_today 0\nplaces 64\nopen_places 61\nconnections_total 7\n"
         ++ codes "events_total 120\nlines_total 9\nrefused_frames_total 1\n"
         ++ codes "unanswered_unserved_total 3\nunanswered_waiting_total 2\n"
-        ++ codes "unanswered_late_total 0\nlog_lines_lost_total 5\nlast_event_age_seconds 2\n"
+        ++ codes "unanswered_late_total 0\nlog_lines_lost_total 5\ngateways 1\n"
+        ++ codes "rows_missing_total 0\nlast_event_age_seconds 2\n"
         ++ codes "oldest_pending_age_seconds 60\nbook_bytes 98304\nwal_bytes 0\n"
         ++ codes "replies_total.00 112\nreplies_total.14 4\nreplies_total.91 1\n"
         ++ codes "replies_total.other 3\npending.2024-05-01 1\npending.2024-05-02 0\n" }

@@ -15,7 +15,7 @@ use day_totals::Day;
 use std::alloc::{AllocError, Global};
 
 /// How many figures there may be.
-const MOST: usize = 19;
+const MOST: usize = 21;
 
 /// 2000-01-01, in days since 1970-01-01.
 const FIRST_DAY: u64 = 10_957;
@@ -89,11 +89,13 @@ fn put_missing(
     Ok(())
 }
 
-/// Puts the ages and the sizes that are known.
+/// Puts what is known of gateways, ages and sizes.
 fn put_known(readings: &mut Vec<Reading>, serving: Serving) -> Result<(), AllocError>
     ensures { OnOk result (readings.new.items ≡ readings.old.items ++ known_readings serving) }
 {
     let oldest = serving.oldest_pending_age;
+    put_if_known(readings, Figure::Gateways, serving.gateways)?;
+    put_if_known(readings, Figure::RowsMissing, serving.rows_missing)?;
     put_if_known(readings, Figure::LastEventAge, serving.last_event_age)?;
     put_if_known(readings, Figure::OldestPendingAge, oldest)?;
     put_if_known(readings, Figure::BookBytes, serving.book_bytes)?;

@@ -27,6 +27,10 @@ pub struct Serving {
     pub durations: ReplyDurations,
     /// How many lines of its log were lost.
     pub lost_lines: u64,
+    /// How many gateways to issuers are connected, where one can come.
+    pub gateways: Option<u64>,
+    /// How many times a gateway asked for the rows behind more than the book has.
+    pub rows_missing: Option<u64>,
     /// How many seconds ago it last took a message of a terminal.
     pub last_event_age: Option<u64>,
     /// How many seconds ago it first saw the request that waits the longest for its issuer.

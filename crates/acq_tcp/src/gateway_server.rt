@@ -202,7 +202,7 @@ impl GatewayServer {
         journal: &mut Journal<'_, T, W>,
     ) {
         if let Some(open) = self.open.take() {
-            journal.closed(open.name(), ended, ending);
+            journal.gateway_closed(open.name(), ended, ending);
             open.disconnect();
         }
     }

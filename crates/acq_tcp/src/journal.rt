@@ -46,11 +46,18 @@ pub(crate) struct Journal<'a, T, W> {
     /// How many control connections were taken, and how many of gateways to issuers.
     controls: u64,
     gateways: u64,
+    /// How many gateways are connected, where one can come.
+    open_gateways: Option<u64>,
 }
 
 impl<'a, T: time::Clock, W: LogTarget> Journal<'a, T, W> {
-    /// Nothing was noted yet.
-    pub(crate) fn new(alloc: Global, time: &'a T, log: Option<HostLog<W>>) -> Journal<'a, T, W> {
+    /// Nothing was noted yet, of a host to which a gateway can come or none.
+    pub(crate) fn new(
+        alloc: Global,
+        time: &'a T,
+        log: Option<HostLog<W>>,
+        can_gateways_come: bool,
+    ) -> Journal<'a, T, W> {
         Journal {
             alloc,
             time,
@@ -63,6 +70,7 @@ impl<'a, T: time::Clock, W: LogTarget> Journal<'a, T, W> {
             },
             controls: 0,
             gateways: 0,
+            open_gateways: if can_gateways_come { Some(0) } else { None },
         }
     }
 
@@ -84,6 +92,8 @@ impl<'a, T: time::Clock, W: LogTarget> Journal<'a, T, W> {
             replies: self.counts.replies,
             durations: self.counts.durations,
             lost_lines: self.lost_lines(),
+            gateways: self.open_gateways,
+            rows_missing: self.rows_missing_told(),
             last_event_age: age_of(self.counts.last_event, now),
             oldest_pending_age: self.first_waiting.age(now),
             book_bytes: self.book_sizes.book,
@@ -96,6 +106,14 @@ impl<'a, T: time::Clock, W: LogTarget> Journal<'a, T, W> {
         match &self.log {
             Some(log) => log.lost(),
             None => 0,
+        }
+    }
+
+    /// How many times a gateway was told that rows are missing, where one can come.
+    fn rows_missing_told(&self) -> Option<u64> {
+        match self.open_gateways {
+            Some(_) => Some(self.counts.rows_missing),
+            None => None,
         }
     }
 
@@ -168,8 +186,9 @@ impl<'a, T: time::Clock, W: LogTarget> Journal<'a, T, W> {
         self.opened(name)
     }
 
-    /// Names a gateway's connection.
+    /// Names the connection of a gateway, which is the only one now.
     pub(crate) fn gateway(&mut self) -> ConnectionName {
+        self.open_gateways = Some(1);
         self.gateways = self.gateways.saturating_add(1);
         let name = ConnectionName::Gateway(self.gateways);
         self.opened(name)
@@ -184,6 +203,7 @@ impl<'a, T: time::Clock, W: LogTarget> Journal<'a, T, W> {
 
     /// A gateway asked for the rows behind more than the book has, which are so many.
     pub(crate) fn rows_missing(&mut self, name: ConnectionName, rows: u64) {
+        self.counts.rows_missing = self.counts.rows_missing.saturating_add(1);
         if let Some(log) = &mut self.log {
             log.rows_missing(self.time, name, rows);
         }
@@ -207,6 +227,17 @@ impl<'a, T: time::Clock, W: LogTarget> Journal<'a, T, W> {
         if let Some(log) = &mut self.log {
             log.closed(self.time, name, ended.err(), ending);
         }
+    }
+
+    /// The gateway's connection ended so.
+    pub(crate) fn gateway_closed(
+        &mut self,
+        name: ConnectionName,
+        ended: &Result<(), FrontFault>,
+        ending: Ending,
+    ) {
+        self.open_gateways = Some(0);
+        self.closed(name, ended, ending);
     }
 
     /// A terminal's connection ended for this fault of a frame, which begins so.

@@ -1,7 +1,7 @@
 //! The words that lines of control connections begin with.
 
 /// These words: those of event lines, of texts, and the others.
-const WORDS: [&str; 17] = [
+const WORDS: [&str; 18] = [
     "frame",
     "answer",
     "cutover",
@@ -14,6 +14,7 @@ const WORDS: [&str; 17] = [
     "holds",
     "pending",
     "explain",
+    "list",
     "status",
     "metrics",
     "end",

@@ -22,6 +22,8 @@ pub(crate) struct ServingCounts {
     /// Connections of terminals that ended for a frame's fault: a bad length, an end inside a
     /// frame, or a frame that spells no message.
     pub(crate) refused_frames: u64,
+    /// How many times a gateway asked for the rows behind more than the book has.
+    pub(crate) rows_missing: u64,
     /// When a message of a terminal was last taken, where the time was known.
     pub(crate) last_event: Option<Instant>,
 }
@@ -41,6 +43,7 @@ impl ServingCounts {
             replies: ReplyCounts::new(),
             durations: ReplyDurations::new(),
             refused_frames: 0,
+            rows_missing: 0,
             last_event: None,
         }
     }

@@ -110,13 +110,10 @@ impl<'a, T: time::Clock + Files, W: LogTarget + Drop> TcpServer<'a, T, W> {
         ensures none_came { IfOk result (λ server. HadNone (controls_by server)) }
     {
         match Listening::begin(net, time, alloc, asked, sockets) {
-            Ok(listening) => Ok(TcpServer::new(
-                alloc,
-                listening,
-                asked,
-                time,
-                Journal::new(alloc, time, log),
-            )),
+            Ok(listening) => {
+                let journal = Journal::new(alloc, time, log, listening.gateway.is_some());
+                Ok(TcpServer::new(alloc, listening, asked, time, journal))
+            }
             Err(fault) => Err(fault),
         }
     }
