@@ -84,6 +84,8 @@ def values(program):
         (["explain", "--db", "b", "--events", "e"], "--events",
          "a file for a new book, without --db"),
         (["show", "--whole"], "--whole", "beside --json alone"),
+        (["list", "--db", "b", "holds"], "WHAT",
+         "merchants, terminals or ranges, as in list merchants"),
         ([*begun, "--log-bytes", "1G"], "--log-bytes",
          "1 to 15 digits, 0 for no bound, as in --log-bytes 1073741824"),
         ([*begun, "--log", "b"], "--log", "a path that no other option names"),

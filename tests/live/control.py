@@ -259,6 +259,8 @@ def play_rows(program):
             wanted("words in the log", len(words), len(rows))
             long = [word for (line, _), word in zip(rows, words) if len(line) >= 16383]
             wanted("words of long lines in the log", long, ["frame"] + ["other"] * 5)
+            lists = [word for (line, _), word in zip(rows, words) if line.startswith("list")]
+            wanted("words of listings in the log", lists, ["list"] * 6)
 
 
 def is_of(want, text):

@@ -54,6 +54,7 @@ COMMANDS = [
     ["clearing", *DAY],
     ["report", *DAY],
     ["holds", "--merchant", "MERCHANT0000001", "--at", "1714555800"],
+    ["list", "merchants"],
 ]
 
 # Those that only read.

@@ -1,7 +1,7 @@
 //! What may be said of a fault without a look at the machine.
 
 /// What an option's value has to be.
-const VALUES: [(&str, &str); 23] = [
+const VALUES: [(&str, &str); 24] = [
     ("--db", "a path"),
     ("--limit", "1 to 999999, as in --limit 999999"),
     ("--day", DAY),
@@ -36,6 +36,10 @@ const VALUES: [(&str, &str); 23] = [
     ("--repeat", "1 to 1000000, as in --repeat 1000"),
     ("--events", "a file for a new book, without --db"),
     ("--whole", "beside --json alone"),
+    (
+        "WHAT",
+        "merchants, terminals or ranges, as in list merchants",
+    ),
     (
         "--log-bytes",
         "1 to 15 digits, 0 for no bound, as in --log-bytes 1073741824",

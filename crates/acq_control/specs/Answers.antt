@@ -10,6 +10,7 @@ use Rattle.acq_out.specs.OutputLines.{line_of}
 use Rattle.acq_reports.specs.OpenHolds.{holds_text}
 use Rattle.acq_reports.specs.Refusals.{day_refusal, merchant_refusal}
 use Rattle.acq_reports.specs.declared.report_fault.ReportFault.{ReportFault}
+use Rattle.acq_directory.specs.Listings.{listing_text}
 use Rattle.acq_status.specs.Figures.{figures_at}
 use Rattle.acq_status.specs.Texts.{text_in}
 use Rattle.acq_stand_in.specs.Pending.{pending_text}
@@ -50,6 +51,7 @@ answer_of t number (Some (question.Holds merchant moment)) =
 answer_of t number (Some (question.Pending day moment)) =
     text_answer (pending_text [] moment (Some day) t)
 answer_of t number (Some (question.Explain event)) = text_answer (explained_in t event)
+answer_of t number (Some (question.List listing)) = text_answer (listing_text listing t)
 answer_of t number (Some (question.Status form serving)) =
     text_answer (text_in form (figures_at t) (Some serving))
 answer_of t number (Some (question.End day moment)) = answer_to_end t day moment

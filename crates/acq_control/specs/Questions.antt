@@ -14,6 +14,7 @@ use Rattle.acq_out.specs.EventLines.{events_of_text}
 use Rattle.acq_out.specs.Fields.{merchant_of_text, moment_of_text}
 use Rattle.acq_faults.specs.declared.report_kind.ReportKind.{ReportKind}
 use Rattle.acq_faults.specs.declared.report_kind.ReportKind.TheVariants as report
+use Rattle.acq_directory.specs.Listings.{listing_named}
 use Rattle.acq_status.specs.declared.serving.Serving.{Serving}
 use Rattle.acq_status.specs.declared.status_form.StatusForm.{StatusForm}
 use Rattle.acq_status.specs.declared.status_form.StatusForm.TheVariants as form
@@ -37,6 +38,7 @@ word_of line =
     else if begins_with line (codes "holds,") then word.Holds
     else if begins_with line (codes "pending,") then word.Pending
     else if begins_with line (codes "explain,") then word.Explain
+    else if begins_with line (codes "list,") then word.List
     else if bytes_eq line (codes "status") then word.Status
     else if bytes_eq line (codes "metrics") then word.Metrics
     else if begins_with line (codes "end,") then word.End
@@ -50,6 +52,7 @@ word_length word.Pending = 8
 word_length word.Explain = 8
 word_length word.Report = 7
 word_length word.Holds = 6
+word_length word.List = 5
 word_length word.End = 4
 word_length other = 0
 
@@ -130,6 +133,10 @@ AsksEnd now text (Some (question.End day moment)) = (moment ≡ now) × (text �
 AsksEnd now text None = IsUtf8 text → IsNoDateText text
 AsksEnd now text (Some other) = ⊥
 
+-- the listing of this name
+abbrev pub list_of : List ℕ → Option Question
+list_of name = option_map (λ listing. question.List listing) (listing_named name)
+
 -- figures in this form, whatever is served
 abbrev pub AsksStatus : StatusForm → Option Question → Type 0
 AsksStatus form (Some (question.Status asked serving)) = asked ≡ form
@@ -174,6 +181,7 @@ AsksBy word.Report now line asked = AsksReport report.Settlement (drop 7 line) a
 AsksBy word.Holds now line asked = asked ≡ holds_of now (drop 6 line)
 AsksBy word.Pending now line asked = AsksPending now (drop 8 line) asked
 AsksBy word.Explain now line asked = AsksExplained now (drop 8 line) asked
+AsksBy word.List now line asked = asked ≡ list_of (drop 5 line)
 AsksBy word.Status now line asked = AsksStatus form.Lines asked
 AsksBy word.Metrics now line asked = AsksStatus form.Metrics asked
 AsksBy word.End now line asked = AsksEnd now (drop 4 line) asked

@@ -25,6 +25,7 @@ ghost use Rattle.acq_control.specs.Unmade.{Puts, Says};
 ghost use Rattle.acq_control.specs.declared.question.Question.TheVariants as question;
 
 use crate::clearing_answer::ClearingAnswer;
+use crate::list_text::ListText;
 use crate::pending_text::PendingText;
 use crate::question::Question;
 use crate::said::Said;
@@ -110,6 +111,7 @@ fn put_question<B: Book + Drop>(
         Question::Holds(merchant, moment) => put_holds(alloc, host, *merchant, *moment, answer)?,
         Question::Pending(day, moment) => put_pending(alloc, host, *day, *moment, answer)?,
         Question::Explain(event) => put_asked(alloc, host, &Explained { event }, answer)?,
+        Question::List(listing) => put_asked(alloc, host, &ListText { listing: *listing }, answer)?,
         Question::Status(form, serving) => {
             let asked = StatusText {
                 form: *form,

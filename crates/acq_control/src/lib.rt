@@ -27,6 +27,7 @@ mod host_answer;
 mod input_lines;
 pub mod laws;
 mod line_buffer;
+mod list_text;
 mod pending_text;
 mod question;
 mod question_word;

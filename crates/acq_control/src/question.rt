@@ -1,6 +1,7 @@
 //! What a line of a control connection asks.
 
 use acq_core::{Event, MerchantId, Moment};
+use acq_directory::Listing;
 use acq_faults::DayReport;
 use acq_status::{Serving, StatusForm};
 use day_totals::Day;
@@ -19,6 +20,8 @@ pub enum Question {
     Pending(Day, Moment),
     /// What the host would say to this event, and why.
     Explain(Event),
+    /// The merchants, the terminals or the ranges.
+    List(Listing),
     /// Figures of the book, and of what is served.
     Status(StatusForm, Serving),
     /// That the business day ends at a moment, if it is this one.

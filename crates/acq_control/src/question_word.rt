@@ -12,6 +12,7 @@ pub(crate) enum QuestionWord {
     Holds,
     Pending,
     Explain,
+    List,
     Status,
     Metrics,
     End,
@@ -37,6 +38,8 @@ impl QuestionWord {
             QuestionWord::Pending
         } else if line.starts_with(b"explain,") {
             QuestionWord::Explain
+        } else if line.starts_with(b"list,") {
+            QuestionWord::List
         } else if line == b"status".as_slice() {
             QuestionWord::Status
         } else if line == b"metrics".as_slice() {
@@ -49,6 +52,7 @@ impl QuestionWord {
             QuestionWord::Event
         }
     }
+
     /// How many bytes it has with the comma behind it, if one is.
     pub(crate) fn length(self) -> usize
         ensures { result ≡ word_length self }
@@ -58,6 +62,7 @@ impl QuestionWord {
             QuestionWord::Pending | QuestionWord::Explain => 8,
             QuestionWord::Report => 7,
             QuestionWord::Holds => 6,
+            QuestionWord::List => 5,
             QuestionWord::End => 4,
             _ => 0,
         }

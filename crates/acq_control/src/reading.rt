@@ -4,7 +4,7 @@ ghost use Rattle.std.specs.Prelude.{◌≡◌, ◌==◌, ℕ, IfOk, List, Option
 ghost use Rattle.std.specs.List.{position};
 ghost use Rattle.acq_control.specs.Questions.{Asks, AsksEnd, AsksEvent, AsksExplained};
 ghost use Rattle.acq_control.specs.Questions.{AsksPending, AsksReport, frame_line};
-ghost use Rattle.acq_control.specs.Questions.{AsksShort, Shows, at_moment, holds_of, moment_at};
+ghost use Rattle.acq_control.specs.Questions.{AsksShort, Shows, at_moment, holds_of, list_of, moment_at};
 ghost use Rattle.acq_control.specs.Questions.{says_now, without_return};
 ghost use Rattle.acq_control.specs.Held.{IsTaken};
 ghost use Rattle.acq_control.specs.Questions as spec;
@@ -14,6 +14,7 @@ use crate::question::Question;
 use crate::question_word::QuestionWord;
 use crate::taken_line::TakenLine;
 use acq_core::{Event, Moment};
+use acq_directory::Listing;
 use acq_faults::{DayReport, ReportKind};
 use acq_link::SliceSource;
 use acq_out::{OutFault, merchant_of, moment_of, read_events};
@@ -64,6 +65,7 @@ fn question_of(
         QuestionWord::Holds => Ok(holds_of(rest, now)),
         QuestionWord::Pending => Ok(pending_on(rest, now)),
         QuestionWord::Explain => explained_of(alloc, rest, now),
+        QuestionWord::List => Ok(list_of(rest)),
         QuestionWord::Status => Ok(Some(Question::Status(StatusForm::Lines, serving))),
         QuestionWord::Metrics => Ok(Some(Question::Status(StatusForm::Metrics, serving))),
         QuestionWord::End => Ok(end_of(rest, now)),
@@ -123,6 +125,14 @@ fn holds_of(text: &[u8], now: Moment) -> Option<Question>
     let merchant = merchant_of(&text[..comma])?;
     let moment = moment_at(&text[comma + 1..], now)?;
     Some(Question::Holds(merchant, moment))
+}
+
+/// The listing of this name.
+fn list_of(name: &[u8]) -> Option<Question>
+    ensures list { result ≡ list_of name.now }
+    ensures shows { (serving : Serving) → Shows serving result }
+{
+    Some(Question::List(Listing::named(name)?))
 }
 
 /// Where the first comma stands, if one does.

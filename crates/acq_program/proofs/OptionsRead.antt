@@ -50,6 +50,7 @@ found_texts-rows f =
       first_value-rows f (codes "events"),
       first_value-rows f (codes "repeat"),
       first_value-rows f (codes "path"),
+      first_value-rows f (codes "what"),
       first_value-rows f (codes "event"),
       values_found-rows f (codes "clearing"),
       values_found-rows f (codes "report"),

@@ -6,6 +6,7 @@ use Rattle.acq_program.specs.declared.action.Action.{Action}
 use Rattle.acq_program.specs.declared.action.Action.TheVariants.{Init, Migrate, Once, Listen}
 use Rattle.acq_program.specs.declared.action.Action.TheVariants.{Replay, Report, Holds, Show, Make}
 use Rattle.acq_program.specs.declared.action.Action.TheVariants.{Pending, Status, Tell, Ask, Explain}
+use Rattle.acq_program.specs.declared.action.Action.TheVariants as actions
 use Rattle.acq_faults.specs.Faults.{status_of}
 use Rattle.acq_faults.specs.declared.fault.Fault.{Fault}
 use Rattle.acq_faults.specs.declared.fault.Fault.TheVariants as fault
@@ -58,6 +59,8 @@ still_quiet words (Replay options) ended told mid after asks same quiet well =
 still_quiet words (Report options) ended told mid after asks same quiet well =
     inl (where_well ended (after ≡ mid) quiet well ∙ same)
 still_quiet words (Holds options) ended told mid after asks same quiet well =
+    inl (where_well ended (after ≡ mid) quiet well ∙ same)
+still_quiet words (actions.List asked) ended told mid after asks same quiet well =
     inl (where_well ended (after ≡ mid) quiet well ∙ same)
 still_quiet words (Pending asked) ended told mid after asks same quiet well =
     inl (where_well ended (after ≡ mid) quiet well ∙ same)

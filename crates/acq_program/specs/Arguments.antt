@@ -12,12 +12,14 @@ use Rattle.std.specs.declared.net.socket_addr.SocketAddrV4.{SocketAddrV4}
 use Rattle.clap.specs.Words.{Row, Text, HasKind, fault_of}
 use Rattle.clap.specs.Words.{kind_of, subcommand_of}
 use Rattle.clap.specs.declared.error.kind.ErrorKind.TheVariants.{OutOfMemory}
+use Rattle.acq_directory.specs.declared.listing.Listing.{Listing}
 use Rattle.acq_make.specs.declared.made_form.MadeForm.{MadeForm}
 use Rattle.acq_program.specs.Program.{program}
 use Rattle.acq_program.specs.declared.action.Action.{Action}
 use Rattle.acq_program.specs.declared.action.Action.TheVariants.{Init, Migrate, Once, Listen}
 use Rattle.acq_program.specs.declared.action.Action.TheVariants.{Replay, Report, Holds, Show, Make}
 use Rattle.acq_program.specs.declared.action.Action.TheVariants.{Pending, Status, Tell, Ask, Explain}
+use Rattle.acq_program.specs.declared.action.Action.TheVariants as actions
 use Rattle.acq_faults.specs.declared.day_report.DayReport.{DayReport}
 use Rattle.acq_commands.specs.declared.explain_options.ExplainOptions.{ExplainOptions}
 use Rattle.acq_commands.specs.declared.input_form.InputForm.{InputForm}
@@ -35,11 +37,11 @@ use Rattle.acq_program.specs.declared.usage_fault.UsageFault.{UsageFault}
 use Rattle.acq_program.specs.declared.usage_fault.UsageFault.TheVariants.{Words, BadValue}
 use Rattle.acq_program.specs.Options.{AddressIs, AnswerWithinIs, CountIs, DayIfThere, DayIs}
 use Rattle.acq_program.specs.Options.{FileIs, FrameWithinIs, FromOneAddressIs, GatewayWithinIs}
-use Rattle.acq_program.specs.Options.{GroupIs, IdleIs, LimitIs, LogBytesIs, MadeFormIs, MerchantIs}
-use Rattle.acq_program.specs.Options.{MomentIfThere, MomentIs, OptionTexts, PortIs, RepeatIfThere}
-use Rattle.acq_program.specs.Options.{ReplyWithinIs, ReportsAre, ShownFormIs, StopWithinIs}
-use Rattle.acq_program.specs.Options.{TogetherIs, WithinIs, form_of_flag, is_set, option_texts}
-use Rattle.acq_program.specs.Options.{report_on, said_by}
+use Rattle.acq_program.specs.Options.{GroupIs, IdleIs, LimitIs, ListingIs, LogBytesIs, MadeFormIs}
+use Rattle.acq_program.specs.Options.{MerchantIs, MomentIfThere, MomentIs, OptionTexts, PortIs}
+use Rattle.acq_program.specs.Options.{RepeatIfThere, ReplyWithinIs, ReportsAre, ShownFormIs}
+use Rattle.acq_program.specs.Options.{StopWithinIs, TogetherIs, WithinIs, form_of_flag, is_set}
+use Rattle.acq_program.specs.Options.{option_texts, report_on, said_by}
 
 -- ---- what a command is asked for
 
@@ -265,6 +267,17 @@ HoldsIn texts path = Then (MerchantIs texts) (HoldsOf texts path)
 abbrev pub AsksHolds : OptionTexts → Result Action OptionName → Type 0
 AsksHolds texts = Then (FileIs texts) (HoldsIn texts)
 
+-- this listing of the book in this file
+abbrev pub IsList : String Global → Listing → Result Action OptionName → Type 0
+IsList path listing read = read ≡ Ok (actions.List (record { path = path; listing = listing }))
+
+abbrev pub ListIn : OptionTexts → String Global → Result Action OptionName → Type 0
+ListIn texts path = Then (ListingIs texts) (IsList path)
+
+-- what `list` is asked for: the file first, then what is listed
+abbrev pub AsksList : OptionTexts → Result Action OptionName → Type 0
+AsksList texts = Then (FileIs texts) (ListIn texts)
+
 -- answers to what is pending in this book on this day, by this file of issuers' answers, at this
 -- moment
 abbrev pub IsPending
@@ -402,6 +415,7 @@ Asks (Some command) asked =
     ⊎ Names (codes "make") AsksMake command asked
     ⊎ Names (codes "ask") AsksAsk command asked
     ⊎ Names (codes "explain") AsksExplain command asked
+    ⊎ Names (codes "list") AsksList command asked
 
 -- nothing is wrong with the words by clap's rules, and they ask for this
 abbrev pub AsksFor : List Text → Result Action OptionName → Type 0

@@ -1,4 +1,4 @@
--- Why a book is not opened, and why what is pending in it is not answered.
+-- Why a book is not opened, why what is pending in it is not answered, and why it is not listed.
 use Rattle.std.specs.Prelude.{◌≡◌, ◌⊎◌}
 use Rattle.acq_faults.specs.Faults.{IsOfAnswers, IsReporting, of_out}
 use Rattle.acq_faults.specs.declared.fault.Fault.{Fault}
@@ -24,6 +24,10 @@ IsClosing other = ⊥
 -- none, or the answers were not written whole
 abbrev pub IsOfPending : Fault → Type 0
 IsOfPending fault = IsOpening fault ⊎ IsOfAnswers fault ⊎ IsReporting fault
+
+-- why a book was not listed: it was not opened, or the text was not written whole
+abbrev pub IsOfList : Fault → Type 0
+IsOfList fault = IsOpening fault ⊎ IsReporting fault
 
 -- why the file of events gave none, as the command tells it
 abbrev pub IsOfEvents : Fault → Type 0

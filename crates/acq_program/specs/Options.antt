@@ -23,6 +23,8 @@ use Rattle.acq_core.specs.Numbers.{is_limit}
 use Rattle.acq_make.specs.declared.made_form.MadeForm.{MadeForm}
 use Rattle.acq_make.specs.declared.made_form.MadeForm.TheVariants as made
 use Rattle.acq_out.specs.Fields.{merchant_of_text, moment_of_text}
+use Rattle.acq_directory.specs.Listings.{listing_named}
+use Rattle.acq_directory.specs.declared.listing.Listing.{Listing}
 use Rattle.acq_faults.specs.declared.day_report.DayReport.{DayReport}
 use Rattle.acq_commands.specs.declared.input_form.InputForm.{InputForm}
 use Rattle.acq_commands.specs.declared.input_form.InputForm.TheVariants as form
@@ -65,6 +67,7 @@ name_of_option option.Events = codes "--events"
 name_of_option option.Repeat = codes "--repeat"
 name_of_option option.Whole = codes "--whole"
 name_of_option option.Path = codes "PATH"
+name_of_option option.What = codes "WHAT"
 name_of_option (option.Report kinds.Clearing) = codes "--clearing"
 name_of_option (option.Report kinds.Settlement) = codes "--report"
 
@@ -103,6 +106,7 @@ pub record OptionTexts : Type 0 where
   pub events : Option Text
   pub repeat : Option Text
   pub path : Option Text
+  pub what : Option Text
 
 -- all values of an option
 abbrev pub values_of : Text → List Row → List Text
@@ -144,6 +148,7 @@ option_texts rows = record {
   events = first_of (codes "events") rows;
   repeat = first_of (codes "repeat") rows;
   path = first_of (codes "path") rows;
+  what = first_of (codes "what") rows;
 }
 
 -- all values of an option, as they were found
@@ -186,6 +191,7 @@ found_texts found = record {
   events = first_value found (codes "events");
   repeat = first_value found (codes "repeat");
   path = first_value found (codes "path");
+  what = first_value found (codes "what");
 }
 
 -- ---- the value of an option, or the name of the option where it has none in its form
@@ -281,6 +287,10 @@ GroupIs texts read = read ≡ group_if_there texts.group
 abbrev pub MerchantIs : OptionTexts → Result (List ℕ) OptionName → Type 0
 MerchantIs texts read =
     read ≡ ok_or (option_and_then merchant_of_text texts.merchant) option.Merchant
+
+-- what is listed: `merchants`, `terminals` or `ranges`
+abbrev pub ListingIs : OptionTexts → Result Listing OptionName → Type 0
+ListingIs texts read = read ≡ ok_or (option_and_then listing_named texts.what) option.What
 
 -- a moment, where there is a text
 abbrev pub moment_if_there : Option Text → Result (Option ℕ) OptionName

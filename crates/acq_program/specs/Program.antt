@@ -78,6 +78,10 @@ holds =
     with_rule (with_rule (with_rule (new_app (codes "holds"))
     (required (codes "db"))) (required (codes "merchant"))) (required (codes "at"))
 
+-- `list --db FILE WHAT`
+abbrev pub list : App
+list = with_rule (with_rule (new_app (codes "list")) (place (codes "what"))) (required (codes "db"))
+
 -- `pending --db FILE [--day DAY] [--issuers FILE] [--at MOMENT]`
 abbrev pub pending : App
 pending =
@@ -132,7 +136,8 @@ abbrev pub program : App
 program =
     with_subcommand (with_subcommand (with_subcommand (with_subcommand (with_subcommand
     (with_subcommand (with_subcommand (with_subcommand (with_subcommand (with_subcommand
-    (with_subcommand (with_subcommand (with_subcommand (with_subcommand (with_subcommand acqd
+    (with_subcommand (with_subcommand (with_subcommand (with_subcommand (with_subcommand
+    (with_subcommand acqd
     init.top) migrate.top) once.top) listen.top) replay.top)
-    (on_a_day (codes "clearing")).top) (on_a_day (codes "report")).top) holds.top) pending.top)
-    show.top) make.top) ask.top) explain.top) tell.top) status.top
+    (on_a_day (codes "clearing")).top) (on_a_day (codes "report")).top) holds.top) list.top)
+    pending.top) show.top) make.top) ask.top) explain.top) tell.top) status.top

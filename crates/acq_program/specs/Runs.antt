@@ -6,6 +6,7 @@ use Rattle.acq_program.specs.declared.action.Action.{Action}
 use Rattle.acq_program.specs.declared.action.Action.TheVariants.{Init, Migrate, Once, Listen}
 use Rattle.acq_program.specs.declared.action.Action.TheVariants.{Replay, Report, Holds, Show, Make}
 use Rattle.acq_program.specs.declared.action.Action.TheVariants.{Pending, Status, Tell, Ask, Explain}
+use Rattle.acq_program.specs.declared.action.Action.TheVariants as actions
 use Rattle.acq_program.specs.declared.option_name.OptionName.{OptionName}
 use Rattle.acq_program.specs.Arguments.{AsksFor}
 use Rattle.acq_front.specs.Talk.{Saying, says_nothing}
@@ -124,6 +125,8 @@ Does (Replay options) remaining received sent told ended =
 Does (Report options) remaining received sent told ended =
     EndsPlainly (λ _. received.after ≡ received.before) ended
 Does (Holds options) remaining received sent told ended =
+    EndsPlainly (λ _. received.after ≡ received.before) ended
+Does (actions.List asked) remaining received sent told ended =
     EndsPlainly (λ _. received.after ≡ received.before) ended
 Does (Pending asked) remaining received sent told ended =
     EndsPlainly (λ _. received.after ≡ received.before) ended

@@ -1,6 +1,7 @@
 //! What the program is asked to do.
 
 use crate::ask_options::AskOptions;
+use crate::list_options::ListOptions;
 use crate::pending_options::PendingOptions;
 use crate::tell_options::TellOptions;
 use acq_commands::{
@@ -27,6 +28,8 @@ pub enum Action {
     Report(BookReport),
     /// Write the open holds of a merchant.
     Holds(HoldsOptions),
+    /// Write the merchants, the terminals or the ranges of the book in a file.
+    List(ListOptions),
     /// Write answers to the requests that are pending.
     Pending(PendingOptions),
     /// Show the messages of the input, which stand there in this form, so.

@@ -6,7 +6,7 @@ ghost use Rattle.clap.specs.Words.{HasMatchesOf, Text, fault_of, first_value, fo
 ghost use Rattle.acq_program.specs.Program.{program};
 ghost use Rattle.acq_program.specs.Arguments.{AsksExplain, ExplainedIs, takes_both};
 ghost use Rattle.acq_program.specs.Arguments.{AsksAsk, AsksHolds, AsksInit, AsksListen};
-ghost use Rattle.acq_program.specs.Arguments.{AsksMigrate, AsksOnce};
+ghost use Rattle.acq_program.specs.Arguments.{AsksList, AsksMigrate, AsksOnce};
 ghost use Rattle.acq_program.specs.Arguments.{AsksPending, EndpointIs};
 ghost use Rattle.acq_program.specs.Options.{AddressIs, AnswerWithinIs, DayIfThere};
 ghost use Rattle.acq_program.specs.Arguments.{AsksReplay, AsksReport, AsksStatus, AsksTell};
@@ -15,7 +15,7 @@ ghost use Rattle.acq_program.specs.Options.{CountIs, DayIs, LogBytesIs};
 ghost use Rattle.acq_program.specs.Options.{FileIs, FrameWithinIs, GroupIs, IdleIs};
 ghost use Rattle.acq_program.specs.Options.{FromOneAddressIs, GatewayWithinIs};
 ghost use Rattle.acq_program.specs.Arguments.{IsNoMemory};
-ghost use Rattle.acq_program.specs.Options.{LimitIs, MerchantIs};
+ghost use Rattle.acq_program.specs.Options.{LimitIs, ListingIs, MerchantIs};
 ghost use Rattle.acq_program.specs.Arguments.{PathIs, PatienceIs, Reads};
 ghost use Rattle.acq_program.specs.Options.{MomentIfThere, MomentIs, PortIs};
 ghost use Rattle.acq_program.specs.Arguments.{ReadsArguments};
@@ -31,6 +31,7 @@ use crate::action::Action;
 use crate::apart::clash_in;
 use crate::ask_options::AskOptions;
 use crate::bounds::Bounds;
+use crate::list_options::ListOptions;
 use crate::option_name::OptionName;
 use crate::options::{
     bytes_of, count_of, group_of, limit_of, port_of, repeat_of, seconds_of, together_of,
@@ -45,6 +46,7 @@ use acq_commands::{
     ReplayOptions, SaidForm, ShownForm, first_day_of_all, greatest_limit,
 };
 use acq_core::{Limit, MerchantId, Moment};
+use acq_directory::Listing;
 use acq_faults::{DayReport, ListenOptions, Patience, ReportKind};
 use acq_json::CardForm;
 use acq_make::MadeForm;
@@ -118,6 +120,7 @@ fn reports_asked_in(alloc: Global, matches: &ArgMatches) -> Result<Action, Usage
         Some(("clearing", options)) => report_of(alloc, ReportKind::Clearing, options),
         Some(("report", options)) => report_of(alloc, ReportKind::Settlement, options),
         Some(("holds", options)) => holds_of(alloc, options),
+        Some(("list", options)) => list_of(alloc, options),
         Some(("pending", options)) => pending_of(alloc, options),
         Some(("show", options)) => show_of(options),
         _ => talks_asked_in(alloc, matches),
@@ -268,6 +271,15 @@ fn holds_of(alloc: Global, options: &ArgMatches) -> Result<Action, UsageFault>
         merchant,
         moment,
     }))
+}
+
+/// What `list` is asked for.
+fn list_of(alloc: Global, options: &ArgMatches) -> Result<Action, UsageFault>
+    ensures { Reads (AsksList (found_texts (found_of options.now))) result }
+{
+    let path = file_option(alloc, options)?;
+    let listing = listing_option(options)?;
+    Ok(Action::List(ListOptions { path, listing }))
 }
 
 /// What `pending` is asked for.
@@ -498,6 +510,16 @@ fn merchant_option(options: &ArgMatches) -> Result<MerchantId, UsageFault>
         .get_str("merchant")
         .and_then(|text| merchant_of(text.as_bytes()))
         .ok_or(UsageFault::BadValue(OptionName::Merchant))
+}
+
+/// What is to be listed.
+fn listing_option(options: &ArgMatches) -> Result<Listing, UsageFault>
+    ensures { Reads (ListingIs (found_texts (found_of options.now))) result }
+{
+    options
+        .get_str("what")
+        .and_then(|text| Listing::named(text.as_bytes()))
+        .ok_or(UsageFault::BadValue(OptionName::What))
 }
 
 /// The moment that is asked for.

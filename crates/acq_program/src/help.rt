@@ -98,12 +98,13 @@ one, and standard error says how many were.
 With --control PATH, control connections are taken at this Unix socket's file, too, which its owner
 alone may open. Each line gets its answer: an event line, where `now` may stand for the moment, the
 line that `replay` writes; `end,DAY` cuts over if that is the business day; `clearing,DAY`,
-`report,DAY`, `pending,DAY`, `holds,MERCHANT,MOMENT`, `status` and `metrics` get the line `text N`
-and the N bytes of the text; a bad line or a refused text its fault; `reopen` opens the log anew;
-and `stop` ends the program, once what was answered is written, or after --stop-within. `acqd tell
-PATH` sends such lines. With --log FILE, what operators want to see is put behind what this file
-holds, in lines, up to --log-bytes; one that isn't there is made for its owner alone. With --log -
-the lines go to standard error. A line that would wait, or has no room, is lost and counted.
+`report,DAY`, `pending,DAY`, `holds,MERCHANT,MOMENT`, `list,WHAT`, `status` and `metrics` get the
+line `text N` and the N bytes of the text; a bad line or a refused text its fault; `reopen` opens
+the log anew; and `stop` ends the program, once what was answered is written, or after
+--stop-within. `acqd tell PATH` sends such lines. With --log FILE, what operators want to see is put
+behind what this file holds, in lines, up to --log-bytes; one that isn't there is made for its owner
+alone. With --log - the lines go to standard error. A line that would wait, or has no room, is lost
+and counted.
 
 A connection that is silent for the SECONDS of --idle, or takes nothing of a reply for so long, is
 closed as one whose read or write failed. So is one whose frame takes longer than --frame-within,
@@ -229,6 +230,24 @@ file failed. A fault is one line on standard error, and what was written before 
 
 Example:
   acqd holds --db book.db --merchant MERCHANT0000001 --at 1714555800";
+
+pub(crate) const ABOUT_LIST: &str = "Writes the merchants, the terminals or the ranges of a book";
+
+pub(crate) const MORE_OF_LIST: &str = "\
+The text is CSV with a header line: merchants in order of their bytes, the terminals of each in
+order of theirs, or ranges in order of their lower ends. Nothing in the book is changed. A host that
+runs is asked `list,merchants`, `list,terminals` or `list,ranges` by `acqd tell`.
+
+The status is 0 where all is well, 1 for a fault, 2 for wrong usage, 3 where memory ran out or the
+file failed. A fault is one line on standard error, and what was written before it stands:
+  acqd: 1 Memory
+  acqd: 2 Store                    the file can't be opened or read
+  acqd: 40 NotABook                the file holds no book
+  acqd: 41 OtherVersion VERSION    the file holds a book of this other version
+  acqd: 54 Write BYTES             a write failed after so many bytes of the text
+
+Example:
+  acqd list terminals --db book.db";
 
 pub(crate) const ABOUT_PENDING: &str =
     "Writes answers to the requests that wait for their issuer's";
@@ -380,9 +399,9 @@ pub(crate) const MORE_OF_TELL: &str = "\
 PATH is the socket's file at which `acqd listen --control PATH` takes control connections. Each line
 is sent once the answer to the one before it is whole: an event line, where `now` may stand for the
 moment; `end,DAY`, which cuts over if that is the business day; `clearing,DAY`, `report,DAY`,
-`holds,MERCHANT,MOMENT`, `pending,DAY`, `explain,HEX`, `status` or `metrics`; `reopen`, for the log;
-or `stop`. An answer's line goes to standard output as it comes, and of a text its bytes alone. A fault's line
-goes to standard error, and the lines behind it are sent all the same.
+`holds,MERCHANT,MOMENT`, `list,WHAT`, `pending,DAY`, `explain,HEX`, `status` or `metrics`; `reopen`,
+for the log; or `stop`. An answer's line goes to standard output as it comes, and of a text its
+bytes alone. A fault's line goes to standard error, and the lines behind it are sent all the same.
 
 The status is 0 where no answer was a fault's line, 1 for a fault, 2 for wrong usage, 3 where memory
 ran out. A fault of its own is one line on standard error, and no further line is sent:

@@ -60,6 +60,8 @@ pub enum OptionName {
     Whole,
     /// The path of a socket's file.
     Path,
+    /// What is listed.
+    What,
     /// A day of which a report is asked for.
     Report(ReportKind),
 }
@@ -99,6 +101,7 @@ impl fmt::Display for OptionName {
             OptionName::Repeat => "--repeat",
             OptionName::Whole => "--whole",
             OptionName::Path => "PATH",
+            OptionName::What => "WHAT",
             OptionName::Report(ReportKind::Clearing) => "--clearing",
             OptionName::Report(ReportKind::Settlement) => "--report",
         })

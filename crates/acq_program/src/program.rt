@@ -247,6 +247,16 @@ const HOLDS: [Parameter<'static>; 3] = [
     },
 ];
 
+/// What `list` takes.
+const LIST: [Parameter<'static>; 2] = [
+    Parameter {
+        name: "what",
+        kind: Place("WHAT"),
+        help: "What is listed: merchants, terminals or ranges",
+    },
+    BOOK,
+];
+
 /// What `pending` takes.
 const PENDING: [Parameter<'static>; 4] = [
     BOOK,
@@ -373,7 +383,7 @@ const EXPLAIN: [Parameter<'static>; 6] = [
 const STATUS: [Parameter<'static>; 1] = [BOOK];
 
 /// The commands, in the order in which the help has them.
-const COMMANDS: [CommandText<'static>; 15] = [
+const COMMANDS: [CommandText<'static>; 16] = [
     CommandText {
         name: "init",
         about: help::ABOUT_INIT,
@@ -421,6 +431,12 @@ const COMMANDS: [CommandText<'static>; 15] = [
         about: help::ABOUT_HOLDS,
         more: help::MORE_OF_HOLDS,
         parameters: &HOLDS,
+    },
+    CommandText {
+        name: "list",
+        about: help::ABOUT_LIST,
+        more: help::MORE_OF_LIST,
+        parameters: &LIST,
     },
     CommandText {
         name: "pending",

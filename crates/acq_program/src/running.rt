@@ -16,6 +16,7 @@ ghost use Rattle.acq_program.specs.Runs.{plain_end, status_in};
 
 use crate::asking::ask_host;
 use crate::explaining::explain;
+use crate::listing::write_list;
 use crate::machine::Machine;
 use crate::pending::answer_pending;
 use crate::status::tell_status;
@@ -127,6 +128,7 @@ fn run<B: Lenient + Drop, M: Machine<B> + Drop, C: Clock, S: Source, K: Sink, F:
         )),
         Action::Report(options) => plainly(report(alloc, machine, &options, output)),
         Action::Holds(options) => plainly(holds(alloc, machine, &options, output)),
+        Action::List(asked) => plainly(write_list(alloc, machine, &asked, output)),
         Action::Pending(asked) => plainly(answer_pending(alloc, machine, &asked, clock, output)),
         Action::Show(how, form) => plainly(show(alloc, how, form, input, output)),
         Action::Make(said, form) => plainly(make(alloc, said, &form, input, output)),
@@ -377,12 +379,13 @@ fn end_waiting_first<B: Book + Drop, C: Clock, F: Sink>(
 
 /// Whether connections are to be served as many at once are, of which one may be there alone.
 fn needs_server(asked: &ListenOptions) -> bool {
-    asked.together > 1
-        || asked.from_one_address.is_some()
-        || asked.proxy_protocol
-        || asked.gateway.is_some()
-        || asked.control.is_some()
-        || asked.log.is_some()
+    // Each is cheap to look at, and a proof walks through each way to leave a chain of `||`.
+    (asked.together > 1)
+        | asked.from_one_address.is_some()
+        | asked.proxy_protocol
+        | asked.gateway.is_some()
+        | asked.control.is_some()
+        | asked.log.is_some()
 }
 
 /// Answers the frames of connections over the book in a file, many at once.

@@ -2,7 +2,7 @@ use Rattle.std.proofs.Common.{◌≡◌, ◌++◌, ◌∙◌, ℕ, List, None, a
 use Rattle.acq_core.specs.Tables.{Tables}
 use Rattle.acq_control.specs.Unmade.{Puts}
 use Rattle.acq_control.proofs.answering.put_question.Goals as goal
-use Rattle.acq_control.proofs.answering.put_question.Goals.{in-Event+in_ok-put_event-in-Event, in-Holds+in_ok-put_holds-in-Holds, in-Pending+in_ok-put_pending-in-Pending, in-Explain+in_ok-put_asked-in-Explain, in-Status+in_ok-put_asked-in-Status, in-End+in_ok-put_end-in-End, in-Reopen+in_ok-put-in-Reopen, in-Stop+in_ok-put-in-Stop}
+use Rattle.acq_control.proofs.answering.put_question.Goals.{in-Event+in_ok-put_event-in-Event, in-Holds+in_ok-put_holds-in-Holds, in-Pending+in_ok-put_pending-in-Pending, in-Explain+in_ok-put_asked-in-Explain, in-List+in_ok-put_asked-in-List, in-Status+in_ok-put_asked-in-Status, in-End+in_ok-put_end-in-End, in-Reopen+in_ok-put-in-Reopen, in-Stop+in_ok-put-in-Stop}
 
 -- all of it was put
 all_put : (now : Tables) (old new text : List ℕ) → new ≡ old ++ text → Puts now old new text None
@@ -26,6 +26,10 @@ returns-clause-answers g c = λ number h o. elim c.match-question.branch [
       rw (w.host-is, w.answer-is, w.in-Explain.is)
       (all_put _ _ _ _
       (w.in_ok-put_asked-in-Explain.ensures.answers (rw (w.host-is) at h) o))
+  | in-List+in_ok-put_asked-in-List w ↦
+      rw (w.host-is, w.answer-is, w.in-List.is)
+      (all_put _ _ _ _
+      (w.in_ok-put_asked-in-List.ensures.answers (rw (w.host-is) at h) o))
   | in-Status+in_ok-put_asked-in-Status w ↦
       rw (w.host-is, w.answer-is, w.in-Status.is)
       (all_put _ _ _ _

@@ -37,6 +37,16 @@ returns-in-Holds-clause-asks c =
     rw is (rw (n, behind 6 line) at c.holds_of.ensures.holds) in
     rw whole at asks
 
+pub returns-in-List-clause-asks : goal.returns-in-List-clause-asks
+returns-in-List-clause-asks c =
+    let line = c.without_return-line.result.now in
+    let whole : line ≡ without_return c.args.line.now = c.without_return-line.ensures in
+    let n : c.length.result ≡ 5 = c.length.ensures ∙ ap word_length c.in-List.is in
+    let is : word_of line ≡ word.List = sym c.of-word.ensures.word ∙ c.in-List.is in
+    let asks : AsksBy (word_of line) c.args.now line c.list_of.result =
+    rw is (rw (n, behind 5 line) at c.list_of.ensures.list) in
+    rw whole at asks
+
 pub returns-in-Pending-clause-asks : goal.returns-in-Pending-clause-asks
 returns-in-Pending-clause-asks c =
     let line = c.without_return-line.result.now in
@@ -49,6 +59,9 @@ returns-in-Pending-clause-asks c =
 
 pub returns-in-Holds-clause-shows : goal.returns-in-Holds-clause-shows
 returns-in-Holds-clause-shows c = c.holds_of.ensures.shows c.args.serving
+
+pub returns-in-List-clause-shows : goal.returns-in-List-clause-shows
+returns-in-List-clause-shows c = c.list_of.ensures.shows c.args.serving
 
 pub returns-in-End-clause-asks : goal.returns-in-End-clause-asks
 returns-in-End-clause-asks c =

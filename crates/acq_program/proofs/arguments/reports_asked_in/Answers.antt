@@ -1,9 +1,7 @@
 -- command by command: what the options were read as is what the arguments ask for
 use Rattle.std.proofs.Common.{◌∙◌, Some, codes, ap, sym, refl, inl, inr}
 use Rattle.clap.specs.Words.{found_of, rows_of}
-use Rattle.acq_program.specs.Arguments.{AsksHolds}
-use Rattle.acq_program.specs.Arguments.{AsksReport, AsksShow}
-use Rattle.acq_program.specs.Arguments.{AsksPending}
+use Rattle.acq_program.specs.Arguments.{AsksHolds, AsksList, AsksPending, AsksReport, AsksShow}
 use Rattle.acq_program.specs.Program.{program}
 use Rattle.acq_faults.specs.declared.report_kind.ReportKind.TheVariants as kinds
 use Rattle.acq_program.proofs.AskedCommands.{named, reads_command}
@@ -42,6 +40,19 @@ returns-in-Some-holds-default c = λ words well matches.
     (named c.args.matches.now program words (codes "holds") (rows_of found) refl
     matches (ap Some (sym it.is-holds) ∙ it.ensures.name) it.ensures.rows)
     c.holds_of.result c.holds_of.ensures
+
+pub returns-in-Some-list-default : goal.returns-in-Some-list-default
+returns-in-Some-list-default c = λ words well matches.
+    let it = c.in-Some-list-default in
+    let found = found_of it.options.now in
+    reads_command (codes "list") AsksList
+    (λ command asked h.
+    inr (inr (inr (inr (inr (inr (inr (inr (inr (inr (inr (inr (inr (inr (inr h)))))))))))))))
+    words found well
+    (named c.args.matches.now program words (codes "list") (rows_of found) refl
+    matches (ap Some (sym it.is-list) ∙ it.ensures.name)
+    it.ensures.rows)
+    c.list_of.result c.list_of.ensures
 
 pub returns-in-Some-show-default : goal.returns-in-Some-show-default
 returns-in-Some-show-default c = λ words well matches.

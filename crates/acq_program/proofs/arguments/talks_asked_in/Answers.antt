@@ -60,7 +60,8 @@ returns-in-Some-explain-default c = λ words well matches.
     let it = c.in-Some-explain-default in
     let found = found_of it.options.now in
     reads_command (codes "explain") AsksExplain
-    (λ command asked h. inr (inr (inr (inr (inr (inr (inr (inr (inr (inr (inr (inr (inr (inr h))))))))))))))
+    (λ command asked h.
+    inr (inr (inr (inr (inr (inr (inr (inr (inr (inr (inr (inr (inr (inr (inl h)))))))))))))))
     words found well
     (named c.args.matches.now program words (codes "explain") (rows_of found) refl
     matches (ap Some (sym it.is-explain) ∙ it.ensures.name)
