@@ -1,30 +1,14 @@
 //! The program's arguments.
 
-ghost use Rattle.std.specs.Prelude.{◌≡◌, List, [], IfErr, IfOk, codes, map, option_map};
-ghost use Rattle.std.specs.Prelude.{string_bytes};
-ghost use Rattle.clap.specs.Words.{HasMatchesOf, Text, fault_of, first_value, found_of};
+ghost use Rattle.std.specs.Prelude.{◌≡◌, [], List, map};
+ghost use Rattle.clap.specs.Words.{HasMatchesOf, Text, fault_of, found_of};
 ghost use Rattle.acq_program.specs.Program.{program};
-ghost use Rattle.acq_program.specs.Arguments.{AsksExplain, ExplainedIs, takes_both};
-ghost use Rattle.acq_program.specs.Arguments.{AsksAsk, AsksHolds, AsksInit, AsksListen};
-ghost use Rattle.acq_program.specs.Arguments.{AsksList, AsksMigrate, AsksOnce};
-ghost use Rattle.acq_program.specs.Arguments.{AsksPending, EndpointIs};
-ghost use Rattle.acq_program.specs.Options.{AddressIs, AnswerWithinIs, DayIfThere};
-ghost use Rattle.acq_program.specs.Arguments.{AsksReplay, AsksReport, AsksStatus, AsksTell};
-ghost use Rattle.acq_program.specs.Arguments.{BoundsAre, ListenedIs};
-ghost use Rattle.acq_program.specs.Options.{CountIs, DayIs, LogBytesIs};
-ghost use Rattle.acq_program.specs.Options.{FileIs, FrameWithinIs, GroupIs, IdleIs};
-ghost use Rattle.acq_program.specs.Options.{FromOneAddressIs, GatewayWithinIs};
-ghost use Rattle.acq_program.specs.Arguments.{IsNoMemory};
-ghost use Rattle.acq_program.specs.Options.{LimitIs, ListingIs, MerchantIs};
-ghost use Rattle.acq_program.specs.Arguments.{PathIs, PatienceIs, Reads};
-ghost use Rattle.acq_program.specs.Options.{MomentIfThere, MomentIs, PortIs};
-ghost use Rattle.acq_program.specs.Arguments.{ReadsArguments};
-ghost use Rattle.acq_program.specs.Options.{StopWithinIs, TogetherIs, WithinIs};
-ghost use Rattle.acq_program.specs.Arguments.{AsksMake};
-ghost use Rattle.acq_program.specs.Options.{MadeFormIs, form_of_flag, made_by};
-ghost use Rattle.acq_program.specs.Arguments.{AsksShow};
-ghost use Rattle.acq_program.specs.Options.{ShownFormIs, is_set, said_by};
-ghost use Rattle.acq_program.specs.Options.{RepeatIfThere, ReplyWithinIs};
+ghost use Rattle.acq_program.specs.Arguments.{AsksAsk, AsksExplain, AsksHolds, AsksInit, AsksList};
+ghost use Rattle.acq_program.specs.Arguments.{AsksListen, AsksMake, AsksMigrate, AsksOnce};
+ghost use Rattle.acq_program.specs.Arguments.{AsksPending, AsksReplay, AsksReport, AsksShow};
+ghost use Rattle.acq_program.specs.Arguments.{AsksStatus, AsksTell, BoundsAre, EndpointIs};
+ghost use Rattle.acq_program.specs.Arguments.{ExplainedIs, ListenedIs, PatienceIs, Reads};
+ghost use Rattle.acq_program.specs.Arguments.{ReadsArguments, takes_both};
 ghost use Rattle.acq_program.specs.Options.{found_texts};
 
 use crate::action::Action;
@@ -33,55 +17,25 @@ use crate::ask_options::AskOptions;
 use crate::bounds::Bounds;
 use crate::list_options::ListOptions;
 use crate::option_name::OptionName;
-use crate::options::{
-    bytes_of, count_of, group_of, limit_of, port_of, repeat_of, seconds_of, together_of,
+use crate::option_values::{
+    address_option, answer_within_option, book_option, control_option, count_option, day_if_there,
+    day_option, events_option, file_option, form_of, frame_within_option, from_one_address_option,
+    gateway_option, gateway_within_option, group_option, idle_option, is_set, issuers_option,
+    limit_option, listing_option, log_bytes_option, log_option, made_form_option, merchant_option,
+    moment_if_there, moment_option, path_value, port_option, repeat_if_there, reply_within_option,
+    said_form_of, shown_form_option, stop_within_option, together_option, within_option,
 };
 use crate::pending_options::PendingOptions;
 use crate::program::program;
 use crate::tell_options::TellOptions;
 use crate::usage_fault::UsageFault;
 use crate::wanted_reports::add_reports;
-use acq_commands::{
-    BookReport, ExplainOptions, GroupSize, HoldsOptions, InputForm, NewBook, OnceOptions,
-    ReplayOptions, SaidForm, ShownForm, first_day_of_all, greatest_limit,
-};
-use acq_core::{Limit, MerchantId, Moment};
-use acq_directory::Listing;
+use acq_commands::{BookReport, ExplainOptions, HoldsOptions, NewBook, OnceOptions, ReplayOptions};
 use acq_faults::{DayReport, ListenOptions, Patience, ReportKind};
-use acq_json::CardForm;
-use acq_make::MadeForm;
-use acq_out::{merchant_of, moment_of};
 use clap::{ArgMatches, Error};
-use day_totals::Day;
 use std::alloc::{AllocError, Global};
 use std::convert::AsStr;
-use std::net::{Ipv4Addr, SocketAddrV4};
-
-/// For how many seconds a connection may be silent, where nothing else is asked for.
-const USUAL_IDLE: u64 = 60;
-
-/// How many seconds a frame may take, where nothing else is asked for.
-const USUAL_FRAME_WITHIN: u64 = 30;
-
-/// How many seconds one may be there once the host was asked to end, where nothing else is asked
-/// for.
-const USUAL_STOP_WITHIN: u64 = 10;
-
-/// How many seconds a terminal may wait for its issuer's answer, where nothing else is asked for.
-const USUAL_ANSWER_WITHIN: u64 = 30;
-
-/// How many seconds it may wait for a gateway where none is connected, where nothing else is asked
-/// for.
-const USUAL_GATEWAY_WITHIN: u64 = 0;
-
-/// How many seconds an answer of a host may take, where nothing else is asked for.
-const USUAL_WITHIN: u64 = 60;
-
-/// How many seconds a reply of a host may take, where nothing else is asked for.
-const USUAL_REPLY_WITHIN: u64 = 30;
-
-/// How many bytes a log has at most, where nothing else is asked for: 1 GiB.
-const USUAL_LOG_BYTES: u64 = 1_073_741_824;
+use std::net::SocketAddrV4;
 
 /// What the arguments ask for, the program's own name first, or what is wrong with them. A call for
 /// help or for the version is an error, too, as clap has it.
@@ -367,207 +321,6 @@ fn explain_options(alloc: Global, options: &ArgMatches) -> Result<ExplainOptions
     })
 }
 
-/// The path of the file of events that a new book takes first, where the option is there.
-fn events_option(alloc: Global, options: &ArgMatches) -> Result<Option<String>, UsageFault>
-    ensures given { IfOk result (λ events. option_map string_bytes events
-        ≡ (found_texts (found_of options.now)).events) }
-    ensures refused { IfErr result IsNoMemory }
-{
-    match options.get_str("events") {
-        Some(path) => Ok(Some(String::from_str(alloc, path)?)),
-        None => Ok(None),
-    }
-}
-
-/// The path of the book's file.
-fn file_option(alloc: Global, options: &ArgMatches) -> Result<String, UsageFault>
-    ensures { Reads (FileIs (found_texts (found_of options.now))) result }
-{
-    match options.get_str("db") {
-        Some(path) => Ok(String::from_str(alloc, path)?),
-        None => Err(UsageFault::BadValue(OptionName::Db)),
-    }
-}
-
-/// The path of the book's file, where the option is there.
-fn book_option(alloc: Global, options: &ArgMatches) -> Result<Option<String>, UsageFault>
-    ensures given { IfOk result (λ book. option_map string_bytes book
-        ≡ (found_texts (found_of options.now)).db) }
-    ensures refused { IfErr result IsNoMemory }
-{
-    match options.get_str("db") {
-        Some(path) => Ok(Some(String::from_str(alloc, path)?)),
-        None => Ok(None),
-    }
-}
-
-/// The path of the file of issuers' answers, where the option is there.
-fn issuers_option(alloc: Global, options: &ArgMatches) -> Result<Option<String>, UsageFault>
-    ensures given { IfOk result (λ issuers. option_map string_bytes issuers
-        ≡ (found_texts (found_of options.now)).issuers) }
-    ensures refused { IfErr result IsNoMemory }
-{
-    match options.get_str("issuers") {
-        Some(path) => Ok(Some(String::from_str(alloc, path)?)),
-        None => Ok(None),
-    }
-}
-
-/// The socket's file at which a gateway to issuers is asked for, if one is.
-fn gateway_option(alloc: Global, options: &ArgMatches) -> Result<Option<String>, UsageFault>
-    ensures given { IfOk result (λ gateway. option_map string_bytes gateway
-        ≡ (found_texts (found_of options.now)).gateway) }
-    ensures refused { IfErr result IsNoMemory }
-{
-    match options.get_str("gateway") {
-        Some(path) => Ok(Some(String::from_str(alloc, path)?)),
-        None => Ok(None),
-    }
-}
-
-/// The socket's file at which control connections are asked for, if they are.
-fn control_option(alloc: Global, options: &ArgMatches) -> Result<Option<String>, UsageFault>
-    ensures given { IfOk result (λ control. option_map string_bytes control
-        ≡ (found_texts (found_of options.now)).control) }
-    ensures refused { IfErr result IsNoMemory }
-{
-    match options.get_str("control") {
-        Some(path) => Ok(Some(String::from_str(alloc, path)?)),
-        None => Ok(None),
-    }
-}
-
-/// The path of the file that takes a log, if one is asked for.
-fn log_option(alloc: Global, options: &ArgMatches) -> Result<Option<String>, UsageFault>
-    ensures given { IfOk result (λ log. option_map string_bytes log
-        ≡ (found_texts (found_of options.now)).log) }
-    ensures refused { IfErr result IsNoMemory }
-{
-    match options.get_str("log") {
-        Some(path) => Ok(Some(String::from_str(alloc, path)?)),
-        None => Ok(None),
-    }
-}
-
-/// The path of a socket's file.
-fn path_value(alloc: Global, options: &ArgMatches) -> Result<String, UsageFault>
-    ensures { Reads (PathIs (found_texts (found_of options.now))) result }
-{
-    match options.get_str("path") {
-        Some(path) => Ok(String::from_str(alloc, path)?),
-        None => Err(UsageFault::BadValue(OptionName::Path)),
-    }
-}
-
-/// The limit that is asked for.
-fn limit_option(options: &ArgMatches) -> Result<Limit, UsageFault>
-    ensures { Reads (LimitIs (found_texts (found_of options.now))) result }
-{
-    match options.get_str("limit") {
-        Some(text) => limit_of(text).ok_or(UsageFault::BadValue(OptionName::Limit)),
-        None => Ok(greatest_limit()),
-    }
-}
-
-/// The day that is asked for.
-fn day_option(options: &ArgMatches) -> Result<Day, UsageFault>
-    ensures { Reads (DayIs (found_texts (found_of options.now))) result }
-{
-    match options.get_str("day") {
-        Some(text) => Day::read(text).ok_or(UsageFault::BadValue(OptionName::Day)),
-        None => Ok(first_day_of_all()),
-    }
-}
-
-/// The day that is asked for, where the option is there.
-fn day_if_there(options: &ArgMatches) -> Result<Option<Day>, UsageFault>
-    ensures { Reads (DayIfThere (found_texts (found_of options.now))) result }
-{
-    let Some(text) = options.get_str("day") else {
-        return Ok(None);
-    };
-    match Day::read(text) {
-        Some(day) => Ok(Some(day)),
-        None => Err(UsageFault::BadValue(OptionName::Day)),
-    }
-}
-
-/// How many events are to be taken at once: without the option 1.
-fn group_option(options: &ArgMatches) -> Result<GroupSize, UsageFault>
-    ensures { Reads (GroupIs (found_texts (found_of options.now))) result }
-{
-    match options.get_str("group") {
-        Some(text) => group_of(text).ok_or(UsageFault::BadValue(OptionName::Group)),
-        None => Ok(GroupSize::one()),
-    }
-}
-
-/// The merchant that is asked for.
-fn merchant_option(options: &ArgMatches) -> Result<MerchantId, UsageFault>
-    ensures { Reads (MerchantIs (found_texts (found_of options.now))) result }
-{
-    options
-        .get_str("merchant")
-        .and_then(|text| merchant_of(text.as_bytes()))
-        .ok_or(UsageFault::BadValue(OptionName::Merchant))
-}
-
-/// What is to be listed.
-fn listing_option(options: &ArgMatches) -> Result<Listing, UsageFault>
-    ensures { Reads (ListingIs (found_texts (found_of options.now))) result }
-{
-    options
-        .get_str("what")
-        .and_then(|text| Listing::named(text.as_bytes()))
-        .ok_or(UsageFault::BadValue(OptionName::What))
-}
-
-/// The moment that is asked for.
-fn moment_option(options: &ArgMatches) -> Result<Moment, UsageFault>
-    ensures { Reads (MomentIs (found_texts (found_of options.now))) result }
-{
-    options
-        .get_str("at")
-        .and_then(|text| moment_of(text.as_bytes()))
-        .ok_or(UsageFault::BadValue(OptionName::At))
-}
-
-/// The moment that is asked for, where the option is there.
-fn moment_if_there(options: &ArgMatches) -> Result<Option<Moment>, UsageFault>
-    ensures { Reads (MomentIfThere (found_texts (found_of options.now))) result }
-{
-    let Some(text) = options.get_str("at") else {
-        return Ok(None);
-    };
-    match moment_of(text.as_bytes()) {
-        Some(moment) => Ok(Some(moment)),
-        None => Err(UsageFault::BadValue(OptionName::At)),
-    }
-}
-
-/// The port that is asked for.
-fn port_option(options: &ArgMatches) -> Result<u16, UsageFault>
-    ensures { Reads (PortIs (found_texts (found_of options.now))) result }
-{
-    options
-        .get_str("port")
-        .and_then(port_of)
-        .ok_or(UsageFault::BadValue(OptionName::Port))
-}
-
-/// The address that is asked for: without the option that of the machine itself.
-fn address_option(options: &ArgMatches) -> Result<Ipv4Addr, UsageFault>
-    ensures { Reads (AddressIs (found_texts (found_of options.now))) result }
-{
-    let Some(text) = options.get_str("address") else {
-        return Ok(Ipv4Addr::new(127, 0, 0, 1));
-    };
-    match text.parse::<Ipv4Addr>() {
-        Ok(address) => Ok(address),
-        Err(_) => Err(UsageFault::BadValue(OptionName::Address)),
-    }
-}
-
 /// The port and the address that are asked for.
 fn endpoint_of(options: &ArgMatches) -> Result<SocketAddrV4, UsageFault>
     ensures { Reads (EndpointIs (found_texts (found_of options.now))) result }
@@ -575,16 +328,6 @@ fn endpoint_of(options: &ArgMatches) -> Result<SocketAddrV4, UsageFault>
     let port = port_option(options)?;
     let address = address_option(options)?;
     Ok(SocketAddrV4::new(address, port))
-}
-
-/// How many connections are asked for: without the option, as many as can be counted.
-fn count_option(options: &ArgMatches) -> Result<u64, UsageFault>
-    ensures { Reads (CountIs (found_texts (found_of options.now))) result }
-{
-    match options.get_str("count") {
-        Some(text) => count_of(text).ok_or(UsageFault::BadValue(OptionName::Count)),
-        None => Ok(u64::MAX),
-    }
 }
 
 /// How long a connection may take.
@@ -605,90 +348,6 @@ fn patience_of(options: &ArgMatches) -> Result<Patience, UsageFault>
     })
 }
 
-/// How many seconds of silence are asked for: without the option 60.
-fn idle_option(options: &ArgMatches) -> Result<u64, UsageFault>
-    ensures { Reads (IdleIs (found_texts (found_of options.now))) result }
-{
-    match options.get_str("idle") {
-        Some(text) => seconds_of(text).ok_or(UsageFault::BadValue(OptionName::Idle)),
-        None => Ok(USUAL_IDLE),
-    }
-}
-
-/// How many seconds a frame may take: without the option 30.
-fn frame_within_option(options: &ArgMatches) -> Result<u64, UsageFault>
-    ensures { Reads (FrameWithinIs (found_texts (found_of options.now))) result }
-{
-    match options.get_str("frame-within") {
-        Some(text) => seconds_of(text).ok_or(UsageFault::BadValue(OptionName::FrameWithin)),
-        None => Ok(USUAL_FRAME_WITHIN),
-    }
-}
-
-/// How many seconds a connection may be there once the host was asked to end: without the option
-/// 10.
-fn stop_within_option(options: &ArgMatches) -> Result<u64, UsageFault>
-    ensures { Reads (StopWithinIs (found_texts (found_of options.now))) result }
-{
-    match options.get_str("stop-within") {
-        Some(text) => seconds_of(text).ok_or(UsageFault::BadValue(OptionName::StopWithin)),
-        None => Ok(USUAL_STOP_WITHIN),
-    }
-}
-
-/// How many seconds a terminal may wait for its issuer's answer: without the option 30.
-fn answer_within_option(options: &ArgMatches) -> Result<u64, UsageFault>
-    ensures { Reads (AnswerWithinIs (found_texts (found_of options.now))) result }
-{
-    match options.get_str("answer-within") {
-        Some(text) => seconds_of(text).ok_or(UsageFault::BadValue(OptionName::AnswerWithin)),
-        None => Ok(USUAL_ANSWER_WITHIN),
-    }
-}
-
-/// How many seconds it may wait for a gateway where none is connected: without the option none.
-fn gateway_within_option(options: &ArgMatches) -> Result<u64, UsageFault>
-    ensures { Reads (GatewayWithinIs (found_texts (found_of options.now))) result }
-{
-    match options.get_str("gateway-within") {
-        Some(text) => seconds_of(text).ok_or(UsageFault::BadValue(OptionName::GatewayWithin)),
-        None => Ok(USUAL_GATEWAY_WITHIN),
-    }
-}
-
-/// How many seconds an answer of a host may take: without the option 60.
-fn within_option(options: &ArgMatches) -> Result<u64, UsageFault>
-    ensures { Reads (WithinIs (found_texts (found_of options.now))) result }
-{
-    match options.get_str("within") {
-        Some(text) => seconds_of(text).ok_or(UsageFault::BadValue(OptionName::Within)),
-        None => Ok(USUAL_WITHIN),
-    }
-}
-
-/// How many seconds a reply of a host may take: without the option 30.
-fn reply_within_option(options: &ArgMatches) -> Result<u64, UsageFault>
-    ensures { Reads (ReplyWithinIs (found_texts (found_of options.now))) result }
-{
-    match options.get_str("within") {
-        Some(text) => seconds_of(text).ok_or(UsageFault::BadValue(OptionName::Within)),
-        None => Ok(USUAL_REPLY_WITHIN),
-    }
-}
-
-/// How often a message is to be sent, where that is asked for.
-fn repeat_if_there(options: &ArgMatches) -> Result<Option<u64>, UsageFault>
-    ensures { Reads (RepeatIfThere (found_texts (found_of options.now))) result }
-{
-    let Some(text) = options.get_str("repeat") else {
-        return Ok(None);
-    };
-    match repeat_of(text) {
-        Some(count) => Ok(Some(count)),
-        None => Err(UsageFault::BadValue(OptionName::Repeat)),
-    }
-}
-
 /// How many connections are served at once, how many of them of one address, and how many bytes a
 /// log has.
 fn bounds_of(options: &ArgMatches) -> Result<Bounds, UsageFault>
@@ -704,39 +363,6 @@ fn bounds_of(options: &ArgMatches) -> Result<Bounds, UsageFault>
     })
 }
 
-/// How many bytes a log has at most: without the option 1 GiB.
-fn log_bytes_option(options: &ArgMatches) -> Result<u64, UsageFault>
-    ensures { Reads (LogBytesIs (found_texts (found_of options.now))) result }
-{
-    match options.get_str("log-bytes") {
-        Some(text) => bytes_of(text).ok_or(UsageFault::BadValue(OptionName::LogBytes)),
-        None => Ok(USUAL_LOG_BYTES),
-    }
-}
-
-/// How many connections are to be served at once: without the option 1.
-fn together_option(options: &ArgMatches) -> Result<usize, UsageFault>
-    ensures { Reads (TogetherIs (found_texts (found_of options.now))) result }
-{
-    match options.get_str("together") {
-        Some(text) => together_of(text).ok_or(UsageFault::BadValue(OptionName::Together)),
-        None => Ok(1),
-    }
-}
-
-/// How many connections of one address may be served at once, where that is asked for.
-fn from_one_address_option(options: &ArgMatches) -> Result<Option<usize>, UsageFault>
-    ensures { Reads (FromOneAddressIs (found_texts (found_of options.now))) result }
-{
-    let Some(text) = options.get_str("from-one-address") else {
-        return Ok(None);
-    };
-    match together_of(text) {
-        Some(number) => Ok(Some(number)),
-        None => Err(UsageFault::BadValue(OptionName::FromOneAddress)),
-    }
-}
-
 /// What `make` is asked for.
 fn make_of(options: &ArgMatches) -> Result<Action, UsageFault>
     ensures { Reads (AsksMake (found_texts (found_of options.now))) result }
@@ -745,77 +371,10 @@ fn make_of(options: &ArgMatches) -> Result<Action, UsageFault>
     Ok(Action::Make(said_form_of(options), form))
 }
 
-/// The form in which `make` is to write: event lines where their moment is there.
-fn made_form_option(options: &ArgMatches) -> Result<MadeForm, UsageFault>
-    ensures { Reads (MadeFormIs (found_texts (found_of options.now))) result }
-{
-    let Some(text) = options.get_str("event") else {
-        return Ok(plain_form(options));
-    };
-    match moment_of(text.as_bytes()) {
-        Some(moment) => Ok(MadeForm::EventLines(moment)),
-        None => Err(UsageFault::BadValue(OptionName::Event)),
-    }
-}
-
-/// The form in which it is to write without that.
-fn plain_form(options: &ArgMatches) -> MadeForm
-    ensures { result ≡ made_by (form_of_flag (first_value (found_of options.now) (codes "hex"))) }
-{
-    match form_of(options) {
-        InputForm::Plain => MadeForm::Frames,
-        InputForm::HexLines => MadeForm::HexLines,
-    }
-}
-
-/// How what is to be made is said.
-fn said_form_of(options: &ArgMatches) -> SaidForm
-    ensures { result ≡ said_by (first_value (found_of options.now) (codes "json")) }
-{
-    if is_set(options, "json") {
-        SaidForm::Json
-    } else {
-        SaidForm::Lines
-    }
-}
-
 /// What `show` is asked for.
 fn show_of(options: &ArgMatches) -> Result<Action, UsageFault>
     ensures { Reads (AsksShow (found_texts (found_of options.now))) result }
 {
     let how = shown_form_option(options)?;
     Ok(Action::Show(how, form_of(options)))
-}
-
-/// How `show` is to show messages: with cards whole only as JSON.
-fn shown_form_option(options: &ArgMatches) -> Result<ShownForm, UsageFault>
-    ensures { Reads (ShownFormIs (found_texts (found_of options.now))) result }
-{
-    match (is_set(options, "json"), is_set(options, "whole")) {
-        (true, true) => Ok(ShownForm::Json(CardForm::Whole)),
-        (true, false) => Ok(ShownForm::Json(CardForm::Masked)),
-        (false, true) => Err(UsageFault::BadValue(OptionName::Whole)),
-        (false, false) => Ok(ShownForm::Text),
-    }
-}
-
-/// The form of the messages in an input.
-fn form_of(options: &ArgMatches) -> InputForm
-    ensures { result ≡ form_of_flag (first_value (found_of options.now) (codes "hex")) }
-{
-    if is_set(options, "hex") {
-        InputForm::HexLines
-    } else {
-        InputForm::Plain
-    }
-}
-
-/// Whether a flag is there.
-fn is_set(options: &ArgMatches, name: &str) -> bool
-    ensures { result ≡ is_set (first_value (found_of options.now) name.now) }
-{
-    match options.get_str(name) {
-        Some("true") => true,
-        _ => false,
-    }
 }

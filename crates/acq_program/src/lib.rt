@@ -17,6 +17,7 @@ mod list_options;
 mod listing;
 mod machine;
 mod option_name;
+mod option_values;
 mod options;
 mod parameter;
 mod pending;
