@@ -1,0 +1,6 @@
+pub mod Inquiries
+pub mod RequestLines
+pub mod PostingLines
+pub mod InquiryTexts
+pub mod Gathering
+pub mod Worked

@@ -1,0 +1,64 @@
+//! What became of requests.
+
+ghost use Rattle.std.specs.Prelude.{◌≡◌, flat_map, is_ok, IfOk};
+ghost use Rattle.acq_book.specs.Calls.{Looks};
+ghost use Rattle.acq_book.specs.Promise.{CountsFault};
+ghost use Rattle.acq_inquiry.specs.InquiryTexts.{request_text, text_of_found};
+
+use crate::posting_lines::posting_lines;
+use crate::request_lines::put_request_lines;
+use acq_book::{Book, BookFault};
+use acq_core::Request;
+use std::alloc::Global;
+
+/// What became of these requests, or that there is none.
+pub(crate) fn text_of_found<B: Book>(
+    alloc: Global,
+    book: &mut B,
+    rows: &[Request],
+) -> Result<Vec<u8>, BookFault>
+    ensures text { B.is_honest book.new → B.is_open book.old → IfOk result (λ text.
+        text.items ≡ text_of_found (B.tables book.old) rows.now) }
+    ensures looks { Looks B.Book book.old book.new (is_ok result) }
+    ensures store { CountsFault result (B.failures book.old) (B.failures book.new) }
+{
+    if rows.is_empty() {
+        return Ok(Vec::from_slice(alloc, b"nothing found\n")?);
+    }
+    text_of_rows(alloc, book, rows)
+}
+
+/// What became of these requests, in order.
+#[tactic(auto, using(acq_book::proofs::Chains::looks_more))]
+fn text_of_rows<B: Book>(
+    alloc: Global,
+    book: &mut B,
+    rows: &[Request],
+) -> Result<Vec<u8>, BookFault>
+    ensures text { B.is_honest book.new → B.is_open book.old → IfOk result (λ text.
+        text.items ≡ flat_map (request_text (B.tables book.old)) rows.now) }
+    ensures looks { Looks B.Book book.old book.new (is_ok result) }
+    ensures store { CountsFault result (B.failures book.old) (B.failures book.new) }
+{
+    let mut text = Vec::new(alloc);
+    for row in rows {
+        let lines = request_text(alloc, book, row)?;
+        text.extend_from_slice(lines.as_slice())?;
+    }
+    Ok(text)
+}
+
+/// What became of a request.
+#[tactic(auto, unfolding(crate::specs::InquiryTexts::request_text))]
+fn request_text<B: Book>(alloc: Global, book: &mut B, row: &Request) -> Result<Vec<u8>, BookFault>
+    ensures text { B.is_honest book.new → B.is_open book.old → IfOk result (λ text.
+        text.items ≡ request_text (B.tables book.old) row.now) }
+    ensures looks { Looks B.Book book.old book.new (is_ok result) }
+    ensures store { CountsFault result (B.failures book.old) (B.failures book.new) }
+{
+    let posted = posting_lines(alloc, book, row)?;
+    let mut text = Vec::new(alloc);
+    put_request_lines(&mut text, row)?;
+    text.extend_from_slice(posted.as_slice())?;
+    Ok(text)
+}

@@ -1,0 +1,26 @@
+//! What became of a merchant's requests: of those with a reference, with a trace number, or of a
+//! card whose last digits are known, and of those that share a reference with them, as a sale's
+//! reversal or a hold's completion does.
+//!
+//! [`write_inquiry`] finds them in two walks over the requests, one for the references and one for
+//! the rows, and writes a few lines of each: what it was, its reply, where it stands, and what it
+//! posted. The text is defined over the tables in `specs/InquiryTexts.antt`. No card number is in
+//! it, but for its mask.
+#![tactic(auto)]
+
+mod asked_words;
+mod found_rows;
+mod hold_ends;
+mod inquiry;
+mod inquiry_text;
+pub mod laws;
+mod line_parts;
+mod posting_lines;
+mod related;
+mod reply_words;
+mod request_lines;
+mod standing_line;
+mod writing;
+
+pub use inquiry::Inquiry;
+pub use writing::write_inquiry;

@@ -1,0 +1,4 @@
+pub mod Changes
+pub mod Lines
+pub mod Dropping
+pub mod Worked

@@ -1,0 +1,9 @@
+pub mod Chains
+pub mod Parts
+pub mod Enrolling
+pub mod Summing
+pub mod Ranges
+pub mod Posting
+pub mod Keeping
+pub mod Setting
+pub mod Owing
