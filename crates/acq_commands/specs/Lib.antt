@@ -11,3 +11,4 @@ pub mod Explain
 pub mod Make
 pub mod Show
 pub mod Streams
+pub mod Ranges

@@ -51,7 +51,7 @@ pub fn take_events<B: Book + Drop, S: Source, P: Progress>(
 }
 
 /// Takes events in order, in groups of this size.
-fn take_each<B: Book + Drop, P: Progress>(
+pub(crate) fn take_each<B: Book + Drop, P: Progress>(
     host: &mut Host<B>,
     group: GroupSize,
     events: &[Event],
@@ -65,6 +65,7 @@ fn take_each<B: Book + Drop, P: Progress>(
         (TakesFirst group (B.tables host.old) (left_of B.Book host.new) events.now) }
     ensures stays_open { B.is_honest host.new → B.is_open host.old
         → OnOk result (B.is_open host.new) }
+    ensures was_honest { B.is_honest host.new → B.is_honest host.old }
     ensures store { CountsFault result (B.failures host.old) (B.failures host.new) }
 {
     progress.begin(events.len());

@@ -2,6 +2,8 @@
 use Rattle.std.specs.Prelude.{◌≡◌, ◌⊎◌, ℕ, List, ◌++◌, [], codes, Result, Ok, Err}
 use Rattle.std.specs.Fmt.{decimal}
 use Rattle.day_totals.specs.Day.{date_text_of}
+use Rattle.day_totals.specs.Digits.{zero_padded}
+use Rattle.card_no.specs.declared.range_fault.RangeFault as ranges
 use Rattle.iso_codec.specs.FaultTexts.{number_of_fault, element_of_fault}
 use Rattle.iso_codec.specs.FaultTexts.{number_of_set_fault, element_of_set_fault}
 use Rattle.acq_book.specs.Promise.{HasRisen}
@@ -14,7 +16,8 @@ use Rattle.acq_out.specs.declared.out_fault.OutFault as out
 use Rattle.acq_out.specs.declared.records.record_fault.RecordFault as records
 use Rattle.acq_reports.specs.declared.report_fault.ReportFault as report
 use Rattle.acq_faults.specs.declared.fault.Fault.{Fault}
-use Rattle.acq_faults.specs.declared.fault.Fault.TheVariants.{Memory, Store, BadAnswer}
+use Rattle.acq_faults.specs.declared.fault.Fault.TheVariants.{Memory, Store, BadRecord}
+use Rattle.acq_faults.specs.declared.fault.Fault.TheVariants.{BadRange, Overlap}
 use Rattle.acq_faults.specs.declared.fault.Fault.TheVariants.{NoSuchMerchant}
 use Rattle.acq_faults.specs.declared.fault.Fault.TheVariants.{NotABook, OtherVersion, BadLength}
 use Rattle.acq_faults.specs.declared.fault.Fault.TheVariants.{Ended, Undecodable, Read, Write}
@@ -27,7 +30,9 @@ use Rattle.acq_faults.specs.declared.fault.Fault.TheVariants.{RowsMissing}
 abbrev pub heading_of : Fault → List ℕ
 heading_of Memory = codes "1 Memory"
 heading_of Store = codes "2 Store"
-heading_of (BadAnswer n) = codes "23 BadLine"
+heading_of BadRange = codes "20 BadRange"
+heading_of (Overlap low high) = codes "21 Overlap"
+heading_of (BadRecord n) = codes "23 BadLine"
 heading_of NoSuchMerchant = codes "37 NoSuchMerchant"
 heading_of NotABook = codes "40 NotABook"
 heading_of (OtherVersion v) = codes "41 OtherVersion"
@@ -49,7 +54,9 @@ heading_of (RowsMissing n) = codes "65 RowsMissing"
 abbrev pub values_of : Fault → List ℕ
 values_of (Undecodable fault) =
     codes " " ++ decimal (number_of_fault fault) ++ codes " " ++ decimal (element_of_fault fault)
-values_of (BadAnswer n) = codes " " ++ decimal n
+values_of (Overlap low high) =
+    codes " " ++ zero_padded 8 low ++ codes " " ++ zero_padded 8 high
+values_of (BadRecord n) = codes " " ++ decimal n
 values_of (OtherVersion v) = codes " " ++ decimal v
 values_of (Write n) = codes " " ++ decimal n
 values_of (StillPending n) = codes " " ++ decimal n
@@ -73,7 +80,9 @@ fault_line fault = codes "acqd: " ++ text_of fault ++ codes "\n"
 abbrev pub status_of : Fault → ℕ
 status_of Memory = 3
 status_of Store = 3
-status_of (BadAnswer n) = 1
+status_of BadRange = 1
+status_of (Overlap low high) = 1
+status_of (BadRecord n) = 1
 status_of NoSuchMerchant = 1
 status_of NotABook = 1
 status_of (OtherVersion v) = 1
@@ -133,7 +142,15 @@ of_make (make.TheVariants.BadMessage n fault) = BadMessage n fault
 abbrev pub of_answers : records.RecordFault → Fault
 of_answers records.TheVariants.Memory = Memory
 of_answers records.TheVariants.Read = Read
-of_answers (records.TheVariants.BadRecord n) = BadAnswer n
+of_answers (records.TheVariants.BadRecord n) = BadRecord n
+
+-- what a fault of a list of ranges is; none is dropped from it, so that none is missing
+abbrev pub of_ranges : ranges.RangeFault → Fault
+of_ranges ranges.TheVariants.Memory = Memory
+of_ranges ranges.TheVariants.BadRange = BadRange
+of_ranges (ranges.TheVariants.Overlap other) = Overlap other.low other.high
+of_ranges ranges.TheVariants.NoSuchRange = BadRange
+of_ranges (ranges.TheVariants.BadLine n) = BadRecord n
 
 -- why that file gave no answers, as the command tells it
 abbrev pub IsOfAnswers : Fault → Type 0

@@ -1,6 +1,7 @@
 //! Why a command stopped.
 
 ghost use Rattle.std.specs.Prelude.{◌≡◌};
+ghost use Rattle.day_totals.specs.Digits.{zero_padded};
 
 use acq_book::BookFault;
 use acq_front::FrontFault;
@@ -10,7 +11,8 @@ use acq_make::MakeFault;
 use acq_out::OutFault;
 use acq_out::records::RecordFault;
 use acq_reports::ReportFault;
-use day_totals::Day;
+use card_no::RangeFault;
+use day_totals::{Day, write_digits};
 use iso_codec::{DecodeFault, SetFault};
 use std::alloc::AllocError;
 use std::error::Error;
@@ -24,9 +26,13 @@ pub enum Fault {
     Memory,
     /// 2: a call of the store failed, or gave rows that break the bounds of their columns.
     Store,
-    /// 23: the record of the file of issuers' answers with this number, counted from 1, is out of
-    /// its form.
-    BadAnswer(u64),
+    /// 20: a range of a list has a value out of its bounds.
+    BadRange,
+    /// 21: a range of a list overlaps this one of it, from its lower to its upper end.
+    Overlap(u32, u32),
+    /// 23: the record of the file of issuers' answers, or of a list of ranges, with this number,
+    /// counted from 1, is out of its form.
+    BadRecord(u64),
     /// 37: the merchant isn't enrolled.
     NoSuchMerchant,
     /// 40: the file is no book: for a new book it isn't empty, and for an old one it lacks the
@@ -84,7 +90,9 @@ impl Fault {
         match self {
             Fault::Memory => "1 Memory",
             Fault::Store => "2 Store",
-            Fault::BadAnswer(_) => "23 BadLine",
+            Fault::BadRange => "20 BadRange",
+            Fault::Overlap(..) => "21 Overlap",
+            Fault::BadRecord(_) => "23 BadLine",
             Fault::NoSuchMerchant => "37 NoSuchMerchant",
             Fault::NotABook => "40 NotABook",
             Fault::OtherVersion(_) => "41 OtherVersion",
@@ -123,19 +131,35 @@ impl fmt::Display for Fault {
             Fault::OtherVersion(n)
             | Fault::Write(n)
             | Fault::StillPending(n)
-            | Fault::BadAnswer(n)
+            | Fault::BadRecord(n)
             | Fault::BadLine(n)
             | Fault::RowsMissing(n) => write!(f, "{} {n}", self.heading()),
             Fault::OtherDay(day) => match str::from_utf8(&day.date_text()) {
                 Ok(date) => write!(f, "{} {date}", self.heading()),
                 Err(_) => Err(fmt::Error),
             },
+            Fault::Overlap(low, high) => {
+                let (low, high) = (end_text(*low), end_text(*high));
+                match (str::from_utf8(&low), str::from_utf8(&high)) {
+                    (Ok(low), Ok(high)) => write!(f, "{} {low} {high}", self.heading()),
+                    _ => Err(fmt::Error),
+                }
+            }
             _ => f.write_str(self.heading()),
         }
     }
 }
 
 impl Error for Fault {}
+
+/// An end of a range: the eight digits of a prefix.
+pub(crate) fn end_text(end: u32) -> [u8; 8]
+    ensures { result ≡ zero_padded 8 end }
+{
+    let mut text = [b'0'; 8];
+    write_digits(u64::from(end), &mut text);
+    text
+}
 
 impl From<AllocError> for Fault {
     ghost use Rattle.acq_faults.specs.declared.fault.Fault.TheVariants.{Memory};
@@ -242,7 +266,22 @@ impl From<RecordFault> for Fault {
         match e {
             RecordFault::Memory => Fault::Memory,
             RecordFault::Read => Fault::Read,
-            RecordFault::BadRecord(record) => Fault::BadAnswer(record),
+            RecordFault::BadRecord(record) => Fault::BadRecord(record),
+        }
+    }
+}
+
+impl From<RangeFault> for Fault {
+    ghost use Rattle.acq_faults.specs.Faults.{of_ranges};
+
+    ghost from_gives = { λ e f. f ≡ of_ranges e };
+
+    fn from(e: RangeFault) -> Fault {
+        match e {
+            RangeFault::Memory => Fault::Memory,
+            RangeFault::BadRange | RangeFault::NoSuchRange => Fault::BadRange,
+            RangeFault::Overlap(other) => Fault::Overlap(other.low, other.high),
+            RangeFault::BadLine(record) => Fault::BadRecord(record),
         }
     }
 }

@@ -2,9 +2,10 @@
 
 ghost use Rattle.std.specs.Prelude.{◌≡◌, ◌+◌, ◌++◌, codes, decimal, OnOk, OnErr};
 ghost use Rattle.day_totals.specs.Day.{date_text_of};
+ghost use Rattle.day_totals.specs.Digits.{zero_padded};
 ghost use Rattle.acq_faults.specs.Faults.{fault_line, values_of};
 
-use crate::fault::Fault;
+use crate::fault::{Fault, end_text};
 use acq_link::{Failed, Sink, write_out};
 use day_totals::Day;
 use itoa::Buffer;
@@ -40,10 +41,14 @@ fn put_values<F: Sink>(faults: &mut F, fault: &Fault) -> Result<(), Failed>
         Fault::OtherVersion(n)
         | Fault::Write(n)
         | Fault::StillPending(n)
-        | Fault::BadAnswer(n)
+        | Fault::BadRecord(n)
         | Fault::BadLine(n)
         | Fault::RowsMissing(n) => put_value(faults, *n),
         Fault::OtherDay(day) => put_date(faults, *day),
+        Fault::Overlap(low, high) => {
+            put_end(faults, *low)?;
+            put_end(faults, *high)
+        }
         _ => Ok(()),
     }
 }
@@ -56,6 +61,17 @@ fn put_value<F: Sink>(faults: &mut F, n: u64) -> Result<(), Failed>
 {
     put(faults, b" ")?;
     put(faults, Buffer::new().format(n).as_bytes())
+}
+
+/// Writes an end of a range behind a space.
+fn put_end<F: Sink>(faults: &mut F, end: u32) -> Result<(), Failed>
+    ensures ok { OnOk result (F.sent faults.new
+        ≡ F.sent faults.old ++ codes " " ++ zero_padded 8 end) }
+    ensures well { OnOk result (F.failures faults.new ≡ F.failures faults.old) }
+    ensures failed { OnErr result (F.failures faults.new ≡ F.failures faults.old + 1) }
+{
+    put(faults, b" ")?;
+    put(faults, &end_text(end))
 }
 
 /// Writes a day's date behind a space.

@@ -47,3 +47,7 @@ returns-in_err-said-clause-stopped g c = λ h opened.
     rw p.1 (first_taken c.args.group events at end group next g.B.Book c.args.host.now
     c.loop-taken.host c.take_group.new.self so.0 so.1 h opened g.met.B.Book.settled
     c.in_err-said.ensures.tables)
+
+pub returns-in_err-said-clause-was_honest : goal.returns-in_err-said-clause-was_honest
+returns-in_err-said-clause-was_honest g c = λ h.
+    c.loop-taken.invariant.0.1.was_honest (c.in_err-said.ensures.tables.was_honest h)
