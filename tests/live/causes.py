@@ -55,7 +55,9 @@ def values(program):
     seconds = "1 to 6 digits of seconds, 0 for ever, as in 60"
     day = "YYYY-MM-DD, 2000-01-01 to 2099-12-31, as in 2024-05-01"
     moment = "seconds since 1970-01-01 UTC, 946684800 to 4102444799, as in --at 1714555800"
+    asking = "1 to 12 digits, or what else `acqd find --help` takes"
     begun = ["listen", "--db", "b", "--port", "8583"]
+    sought = ["--db", "b", "--merchant", "MERCHANT0000001"]
     for words, option, cause in (
         (["init", "--db", "b", "--limit", "0", "--day", DAY], "--limit",
          "1 to 999999, as in --limit 999999"),
@@ -86,6 +88,21 @@ def values(program):
         (["show", "--whole"], "--whole", "beside --json alone"),
         (["list", "--db", "b", "holds"], "WHAT",
          "merchants, terminals or ranges, as in list merchants"),
+        (["find", *sought, "--reference", "5002x"], "--reference", asking),
+        (["find", *sought], "--reference", asking),
+        (["find", *sought, "--reference", "1", "--day", DAY], "--reference", asking),
+        (["find", *sought, "--terminal", "TERM0001"], "--reference", asking),
+        (["find", *sought, "--terminal", "TERMINAL1", "--trace", "000001"], "--terminal",
+         "1 to 8 characters, as element 41 has them"),
+        (["find", *sought, "--terminal", "TERM0001", "--trace", "1"], "--trace",
+         "six digits, as in --trace 000001"),
+        (["find", *sought, "--card-ends", "111", "--day", DAY], "--card-ends",
+         "the last four digits, as in --card-ends 1111"),
+        (["find", *sought, "--card-ends", "1111", "--day", "today"], "--day", day),
+        (["statement", "--db", "b", "--day", DAY, "--to", "2023-12-31"], "--to",
+         "YYYY-MM-DD, not before --day, as in 2024-05-31"),
+        (["statement", "--db", "b", "--day", DAY, "--merchant", "A", "--merchant", ""],
+         "--merchant", "1 to 15 characters, as element 42 has them"),
         ([*begun, "--log-bytes", "1G"], "--log-bytes",
          "1 to 15 digits, 0 for no bound, as in --log-bytes 1073741824"),
         ([*begun, "--log", "b"], "--log", "a path that no other option names"),
@@ -208,6 +225,25 @@ def hosts(program):
             explained(tell, fault, cause, given=f"{line}\n".encode())
 
 
+def lists(program):
+    """A list that can't become a book's ranges."""
+    with Book(program) as book:
+        folder = book.folder
+        ranges = book.words("ranges", "--set")
+        explained([*ranges, f"{folder}/none"], "53 Read",
+                  f"{folder}/none: there is no such file, or no such folder")
+        explained([*ranges, folder], "23 BadLine 1",
+                  f"{folder}: each record is LOW,HIGH,ISSUER,HOLD, low and high of eight digits")
+        explained([*ranges, book.file("a", "4,5,1,1\n")], "23 BadLine 1",
+                  f"{folder}/a: each record is LOW,HIGH,ISSUER,HOLD, low and high of eight digits")
+        explained([*ranges, book.file("b", "00000002,00000001,1,1\n")], "20 BadRange",
+                  f"{folder}/b: low is above high, hold days aren't 1 to 31, "
+                  "or an issuer isn't 1 to 11 digits")
+        twice = "00000001,00000002,1,1\n00000002,00000003,1,1\n"
+        explained([*ranges, book.file("c", twice)], "21 Overlap 00000001 00000002",
+                  f"{folder}/c: a further record has numbers of this range, too")
+
+
 def days(program):
     """A day that can't be told, and one of which nothing is in the book."""
     with Book(program) as book:
@@ -303,7 +339,7 @@ def in_the_log(program):
         ])
 
 
-TRIES = [values, books, ports, hosts, days, connections, a_gateway, in_the_log]
+TRIES = [values, books, ports, hosts, lists, days, connections, a_gateway, in_the_log]
 
 if __name__ == "__main__":
     sys.exit(main(TRIES, at_once=2))

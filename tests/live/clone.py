@@ -34,7 +34,9 @@ esac
 STAMP = "crates/acqd/out/acqd.built"
 SOURCES = ("crates.txt", "crates/acqd/src/main.rt", "crates/low/specs/Lib.antt")
 CHANGED = "acqd: a source has changed since the program was built; ./acqd build"
-ALL_KINDS = "listen init clearing report holds list ask tell status pending migrate".split()
+ALL_KINDS = (
+    "listen init clearing report statement find holds list ranges ask tell status pending migrate"
+).split()
 
 
 class Clone:

@@ -51,14 +51,18 @@ COMMANDS = [
     ["replay"],
     ["once"],
     ["listen", "--port", "8583", "--count", "1"],
+    ["ranges", "--set", "list.csv"],
     ["clearing", *DAY],
     ["report", *DAY],
     ["holds", "--merchant", "MERCHANT0000001", "--at", "1714555800"],
     ["list", "merchants"],
+    ["report", *DAY, "--csv"],
+    ["statement", *DAY],
+    ["find", "--merchant", "MERCHANT0000001", "--reference", "1"],
 ]
 
 # Those that only read.
-READING = COMMANDS[5:]
+READING = COMMANDS[6:]
 
 
 def acqd(words, text=b"", **how):

@@ -10,10 +10,10 @@ as the event line that it comes on; or `hex` and a message in parts, in hexadeci
 What stands on the machine comes before: `@setup EVENT` is an event that each book of the file has
 taken; `@book` a book, and `@book EVENT` a further event of it; `@refused NUMBER` a book that is
 refused with this fault, and `@refused 41 VERSION` one of another version; `@issuers` a file of
-issuers' answers, and `@issuers RECORD` a record of it; `@port` a port, and `@connection` a
-connection, which sends what `@frame` and `@bytes` behind it say; `@host` a host that takes control
-connections, `@host LINE` a line that it answers, and `@host bytes BYTES` bytes that no line ends.
-`@piece COUNT` says how many bytes a read gives, `@read COUNT` that the read after so many fails,
+issuers' answers, and `@issuers RECORD` a record of it; `@list` a list of ranges, and `@list RECORD`
+a record of it; `@port` a port, and `@connection` a connection, which sends what `@frame` and
+`@bytes` behind it say; `@host` a host that takes control connections, `@host LINE` a line that it
+answers, and `@host bytes BYTES` bytes that no line ends. `@piece COUNT` says how many bytes a read gives, `@read COUNT` that the read after so many fails,
 and `@writes frame`, `@writes line` or `@writes text` that it runs again with each write failing,
 where the fault's line counts bytes so.
 """
@@ -40,12 +40,13 @@ class Text:
 @dataclass
 class Machine:
     """What is found on the machine: the events that the book in its file has taken, or why it is
-    refused; the issuers' answers, the connections that come, and what a host answers that takes
-    control connections, each `None` where there is none."""
+    refused; the issuers' answers, the list of ranges, the connections that come, and what a host
+    answers that takes control connections, each `None` where there is none."""
 
     book: bytes | None = None
     refused: tuple | None = None
     issuers: bytes | None = None
+    ranges: bytes | None = None
     connections: list | None = None
     host: bytes | None = None
 
@@ -129,6 +130,8 @@ class Reader:
             machine.refused = refusal(rest, line)
         elif word == "issuers":
             machine.issuers = (machine.issuers or b"") + bytes_of(rest, line)
+        elif word == "list":
+            machine.ranges = (machine.ranges or b"") + bytes_of(rest, line)
         elif word == "host":
             kind, rest = ("bytes", rest[6:]) if rest.startswith("bytes ") else ("", rest)
             answer = given_by(kind, rest, line) if rest else b""

@@ -42,7 +42,8 @@ class MachineAtHand:
         self.books, self.room, self.terms, self.words = books, room, run.machine, list(run.words)
         self.held = []
         self.put_book()
-        self.put_issuers()
+        self.put_file("--issuers", self.terms.issuers)
+        self.put_file("--set", self.terms.ranges)
         self.put_port()
         self.put_host()
 
@@ -81,11 +82,11 @@ class MachineAtHand:
         elif has_book(command, refused):
             self.books.put(path)
 
-    def put_issuers(self):
-        """Puts the file of issuers' answers."""
-        name = value_of(self.words, "--issuers")
-        if name and self.terms.issuers is not None:
-            put(f"{self.room}/{name}", self.terms.issuers)
+    def put_file(self, option, given):
+        """Puts the file that an option names."""
+        name = value_of(self.words, option)
+        if name and given is not None:
+            put(f"{self.room}/{name}", given)
 
     def put_port(self):
         """Keeps a port that nobody else gets; where somebody listens at it, it can't be had."""

@@ -1,7 +1,7 @@
 //! What may be said of a fault without a look at the machine.
 
 /// What an option's value has to be.
-const VALUES: [(&str, &str); 24] = [
+const VALUES: [(&str, &str); 29] = [
     ("--db", "a path"),
     ("--limit", "1 to 999999, as in --limit 999999"),
     ("--day", DAY),
@@ -40,6 +40,17 @@ const VALUES: [(&str, &str); 24] = [
         "WHAT",
         "merchants, terminals or ranges, as in list merchants",
     ),
+    (
+        "--reference",
+        "1 to 12 digits, or what else `acqd find --help` takes",
+    ),
+    ("--terminal", "1 to 8 characters, as element 41 has them"),
+    ("--trace", "six digits, as in --trace 000001"),
+    (
+        "--card-ends",
+        "the last four digits, as in --card-ends 1111",
+    ),
+    ("--to", "YYYY-MM-DD, not before --day, as in 2024-05-31"),
     (
         "--log-bytes",
         "1 to 15 digits, 0 for no bound, as in --log-bytes 1073741824",
@@ -88,6 +99,16 @@ pub(crate) fn of_fault(number: u64) -> Option<&'static str> {
         54 => "the output couldn't be written: its reader left, or the disk is full",
         62 => "this record or line of the input is out of its form",
         64 => "the element's content is refused: 4 not in the profile, 6 its length, 7 a byte",
+        _ => return None,
+    })
+}
+
+/// What is wrong with a list of ranges, by the fault's number.
+pub(crate) fn of_list(number: u64) -> Option<&'static str> {
+    Some(match number {
+        20 => "low is above high, hold days aren't 1 to 31, or an issuer isn't 1 to 11 digits",
+        21 => "a further record has numbers of this range, too",
+        23 => "each record is LOW,HIGH,ISSUER,HOLD, low and high of eight digits",
         _ => return None,
     })
 }

@@ -1,6 +1,6 @@
 //! What a fault is about, by what was asked for and what is found on the machine now.
 
-use crate::advice::{of_asking, of_connection, of_fault, of_host, of_value};
+use crate::advice::{of_asking, of_connection, of_fault, of_host, of_list, of_value};
 use crate::asked::Asked;
 use crate::cause::Cause;
 use crate::explained::is_of_connection;
@@ -51,8 +51,14 @@ fn plain(words: Option<&'static str>) -> Option<Cause> {
     Some(Cause::plain(words?))
 }
 
-/// What a fault is about that has a file: the book's, or that of issuers' answers.
+/// What a fault is about that has a file: a list of ranges, that of issuers' answers, or the book's.
 fn cause_in_file(rt: &HostRuntime, asked: Asked<'_>, number: u64) -> Option<Cause> {
+    let list = asked.value("--set");
+    if list.is_some() {
+        if let Some(words) = of_list(number) {
+            return Some(Cause::of_value(rt.alloc(), list, words));
+        }
+    }
     let option = if number == 23 { "--issuers" } else { "--db" };
     let file = asked.value(option);
     let words = match number {
@@ -81,6 +87,7 @@ fn cause_of_lack(rt: &HostRuntime, asked: Asked<'_>, lack: Lack) -> Cause {
     let about = match lack {
         Lack::Issuers => asked.value("--issuers"),
         Lack::Events => asked.value("--events"),
+        Lack::Ranges => asked.value("--set"),
         Lack::Log => asked.value("--log"),
         Lack::Control => asked.value("--control"),
         Lack::Gateway => asked.value("--gateway"),
@@ -90,7 +97,7 @@ fn cause_of_lack(rt: &HostRuntime, asked: Asked<'_>, lack: Lack) -> Cause {
     };
     let path = about.unwrap_or("");
     let words = match lack {
-        Lack::Issuers | Lack::Events => why_unread(rt, path),
+        Lack::Issuers | Lack::Events | Lack::Ranges => why_unread(rt, path),
         Lack::Log => why_unwritten(rt, path),
         Lack::Control | Lack::Gateway => why_no_socket(rt, path),
         Lack::Port(kind) => why_no_port(kind),

@@ -9,6 +9,8 @@ pub enum Lack {
     Issuers,
     /// The file of events that a new book takes first.
     Events,
+    /// The file of a list of ranges.
+    Ranges,
     /// Two options name one file.
     SameFile,
     /// The file of the log for operators.

@@ -6,7 +6,9 @@ use Rattle.acq_faults.specs.declared.fault.Fault.TheVariants as fault
 pub closing_is_opening : (f : Fault) → IsClosing f → IsOpening f
 closing_is_opening fault.Memory h = h
 closing_is_opening fault.Store h = h
-closing_is_opening (fault.BadAnswer n) h = h
+closing_is_opening fault.BadRange h = h
+closing_is_opening (fault.Overlap low high) h = h
+closing_is_opening (fault.BadRecord n) h = h
 closing_is_opening fault.NoSuchMerchant h = h
 closing_is_opening fault.NotABook h = absurd h
 closing_is_opening (fault.OtherVersion v) h = absurd h

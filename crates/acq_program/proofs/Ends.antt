@@ -9,7 +9,9 @@ use Rattle.acq_program.specs.Runs.{status_in}
 within : (f : Fault) → status_of f ≤ 3
 within fault.Memory = omega arith
 within fault.Store = omega arith
-within (fault.BadAnswer n) = omega arith
+within fault.BadRange = omega arith
+within (fault.Overlap low high) = omega arith
+within (fault.BadRecord n) = omega arith
 within fault.NoSuchMerchant = omega arith
 within fault.NotABook = omega arith
 within (fault.OtherVersion v) = omega arith

@@ -16,7 +16,9 @@ use Rattle.acq_program.specs.Runs.{IsQuiet, Tells, status_in}
 not_well : (f : Fault) → status_of f ≡ 0 → ⊥
 not_well fault.Memory h = omega (arith, h)
 not_well fault.Store h = omega (arith, h)
-not_well (fault.BadAnswer n) h = omega (arith, h)
+not_well fault.BadRange h = omega (arith, h)
+not_well (fault.Overlap low high) h = omega (arith, h)
+not_well (fault.BadRecord n) h = omega (arith, h)
 not_well fault.NoSuchMerchant h = omega (arith, h)
 not_well fault.NotABook h = omega (arith, h)
 not_well (fault.OtherVersion v) h = omega (arith, h)
@@ -47,7 +49,7 @@ pub still_quiet : (words : List (List ℕ)) (action : Action) (ended : Result �
     AsksFor words (Ok action) → Tells action told mid ended → OnOk ended (after ≡ mid) →
     status_in ended ≡ 0 →
     IsQuiet words told after
-still_quiet words (Init new) ended told mid after asks same quiet well =
+still_quiet words (Init new sums) ended told mid after asks same quiet well =
     inl (where_well ended (after ≡ mid) quiet well ∙ same)
 still_quiet words (Migrate path) ended told mid after asks same quiet well =
     inl (where_well ended (after ≡ mid) quiet well ∙ same)
@@ -60,7 +62,15 @@ still_quiet words (Report options) ended told mid after asks same quiet well =
     inl (where_well ended (after ≡ mid) quiet well ∙ same)
 still_quiet words (Holds options) ended told mid after asks same quiet well =
     inl (where_well ended (after ≡ mid) quiet well ∙ same)
+still_quiet words (actions.ReportCsv asked) ended told mid after asks same quiet well =
+    inl (where_well ended (after ≡ mid) quiet well ∙ same)
+still_quiet words (actions.Statement asked) ended told mid after asks same quiet well =
+    inl (where_well ended (after ≡ mid) quiet well ∙ same)
+still_quiet words (actions.Find asked) ended told mid after asks same quiet well =
+    inl (where_well ended (after ≡ mid) quiet well ∙ same)
 still_quiet words (actions.List asked) ended told mid after asks same quiet well =
+    inl (where_well ended (after ≡ mid) quiet well ∙ same)
+still_quiet words (actions.Ranges asked) ended told mid after asks same quiet well =
     inl (where_well ended (after ≡ mid) quiet well ∙ same)
 still_quiet words (Pending asked) ended told mid after asks same quiet well =
     inl (where_well ended (after ≡ mid) quiet well ∙ same)

@@ -1,7 +1,7 @@
 -- What the arguments ask for, by the values of their options.
-use Rattle.std.specs.Prelude.{◌≡◌, ◌⊎◌, ℕ, Bool, ◌&&◌, List, [], ◌++◌}
-use Rattle.std.specs.Prelude.{codes}
-use Rattle.std.specs.Prelude.{Option, Some, None, option_map}
+use Rattle.std.specs.Prelude.{◌≡◌, ◌⊎◌, ℕ, nat_lt, Bool, ◌&&◌, List, [], ◌++◌}
+use Rattle.std.specs.Prelude.{codes, if◌then◌else◌}
+use Rattle.std.specs.Prelude.{Option, Some, None, option_map, unwrap_or}
 use Rattle.std.specs.Prelude.{is_some, true, false}
 use Rattle.std.specs.Prelude.{Result, Ok, Err}
 use Rattle.std.specs.Prelude.{String, string_bytes}
@@ -13,6 +13,8 @@ use Rattle.clap.specs.Words.{Row, Text, HasKind, fault_of}
 use Rattle.clap.specs.Words.{kind_of, subcommand_of}
 use Rattle.clap.specs.declared.error.kind.ErrorKind.TheVariants.{OutOfMemory}
 use Rattle.acq_directory.specs.declared.listing.Listing.{Listing}
+use Rattle.acq_inquiry.specs.declared.inquiry.Inquiry.{Inquiry}
+use Rattle.acq_inquiry.specs.declared.inquiry.Inquiry.TheVariants as inquiry
 use Rattle.acq_make.specs.declared.made_form.MadeForm.{MadeForm}
 use Rattle.acq_program.specs.Program.{program}
 use Rattle.acq_program.specs.declared.action.Action.{Action}
@@ -20,6 +22,7 @@ use Rattle.acq_program.specs.declared.action.Action.TheVariants.{Init, Migrate, 
 use Rattle.acq_program.specs.declared.action.Action.TheVariants.{Replay, Report, Holds, Show, Make}
 use Rattle.acq_program.specs.declared.action.Action.TheVariants.{Pending, Status, Tell, Ask, Explain}
 use Rattle.acq_program.specs.declared.action.Action.TheVariants as actions
+use Rattle.acq_statement.specs.declared.days.Days.{Days}
 use Rattle.acq_faults.specs.declared.day_report.DayReport.{DayReport}
 use Rattle.acq_commands.specs.declared.explain_options.ExplainOptions.{ExplainOptions}
 use Rattle.acq_commands.specs.declared.input_form.InputForm.{InputForm}
@@ -28,6 +31,7 @@ use Rattle.acq_commands.specs.declared.shown_form.ShownForm.{ShownForm}
 use Rattle.acq_faults.specs.declared.listen_options.ListenOptions.{ListenOptions}
 use Rattle.acq_faults.specs.declared.patience.Patience.{Patience}
 use Rattle.acq_program.specs.declared.bounds.Bounds.{Bounds}
+use Rattle.acq_program.specs.declared.sought.Sought.{Sought}
 use Rattle.acq_program.specs.Apart.{clash_of}
 use Rattle.acq_program.specs.declared.option_name.OptionName.{OptionName}
 use Rattle.acq_program.specs.declared.option_name.OptionName.TheVariants as option
@@ -35,13 +39,15 @@ use Rattle.acq_faults.specs.declared.report_kind.ReportKind.{ReportKind}
 use Rattle.acq_faults.specs.declared.report_kind.ReportKind.TheVariants as kinds
 use Rattle.acq_program.specs.declared.usage_fault.UsageFault.{UsageFault}
 use Rattle.acq_program.specs.declared.usage_fault.UsageFault.TheVariants.{Words, BadValue}
-use Rattle.acq_program.specs.Options.{AddressIs, AnswerWithinIs, CountIs, DayIfThere, DayIs}
-use Rattle.acq_program.specs.Options.{FileIs, FrameWithinIs, FromOneAddressIs, GatewayWithinIs}
-use Rattle.acq_program.specs.Options.{GroupIs, IdleIs, LimitIs, ListingIs, LogBytesIs, MadeFormIs}
-use Rattle.acq_program.specs.Options.{MerchantIs, MomentIfThere, MomentIs, OptionTexts, PortIs}
-use Rattle.acq_program.specs.Options.{RepeatIfThere, ReplyWithinIs, ReportsAre, ShownFormIs}
-use Rattle.acq_program.specs.Options.{StopWithinIs, TogetherIs, WithinIs, form_of_flag, is_set}
-use Rattle.acq_program.specs.Options.{option_texts, report_on, said_by}
+use Rattle.acq_program.specs.Options.{AddressIs, AnswerWithinIs, CardEndsIfThere, CountIs}
+use Rattle.acq_program.specs.Options.{DayIfThere, DayIs, FileIs, FrameWithinIs, FromOneAddressIs}
+use Rattle.acq_program.specs.Options.{GatewayWithinIs, GroupIs, IdleIs, LastDayIfThere, LimitIs}
+use Rattle.acq_program.specs.Options.{ListFileIs, ListingIs, LogBytesIs, MadeFormIs, MerchantIs}
+use Rattle.acq_program.specs.Options.{MerchantsAre, MomentIfThere, MomentIs, OptionTexts, PortIs}
+use Rattle.acq_program.specs.Options.{ReferenceIfThere, RepeatIfThere, ReplyWithinIs, ReportsAre}
+use Rattle.acq_program.specs.Options.{ShownFormIs, StopWithinIs, TerminalIfThere, TogetherIs}
+use Rattle.acq_program.specs.Options.{TraceIfThere, WithinIs, form_of_flag, is_set, option_texts}
+use Rattle.acq_program.specs.Options.{page_sums_by, report_on, said_by, statement_form_by}
 
 -- ---- what a command is asked for
 
@@ -53,13 +59,15 @@ Then {A} {B} First Rest read =
     ((name : OptionName) × (read ≡ Err name) × First (Err name))
     ⊎ ((value : A) × First (Ok value) × Rest value read)
 
--- a new book in this file, with this limit and this first day
-abbrev pub IsInit : String Global → ℕ → ℕ → Result Action OptionName → Type 0
-IsInit path limit day read =
-    read ≡ Ok (Init (record { path = path; limit = limit; first_day = day }))
+-- a new book in this file, with this limit and this first day, whose pages have sums or none
+abbrev pub IsInit
+    : OptionTexts → String Global → ℕ → ℕ → Result Action OptionName → Type 0
+IsInit texts path limit day read =
+    read ≡ Ok (Init (record { path = path; limit = limit; first_day = day })
+    (page_sums_by texts.sums))
 
 abbrev pub InitWith : OptionTexts → String Global → ℕ → Result Action OptionName → Type 0
-InitWith texts path limit = Then (DayIs texts) (IsInit path limit)
+InitWith texts path limit = Then (DayIs texts) (IsInit texts path limit)
 
 abbrev pub InitIn : OptionTexts → String Global → Result Action OptionName → Type 0
 InitIn texts path = Then (LimitIs texts) (InitWith texts path)
@@ -241,16 +249,141 @@ abbrev pub AsksReplay : OptionTexts → Result Action OptionName → Type 0
 AsksReplay texts = Then (LimitIs texts) (ReplayUpTo texts)
 
 -- a report of this kind on the book in this file
-abbrev pub IsReport : ReportKind → String Global → ℕ → Result Action OptionName → Type 0
-IsReport kind path day read =
-    read ≡ Ok (Report (record { path = path; report = report_on kind day }))
+abbrev pub report_in : ReportKind → String Global → ℕ → Action
+report_in kind path day = Report (record { path = path; report = report_on kind day })
 
-abbrev pub ReportIn : ReportKind → OptionTexts → String Global → Result Action OptionName → Type 0
-ReportIn kind texts path = Then (DayIs texts) (IsReport kind path)
+-- the clearing file
+abbrev pub IsClearing : String Global → ℕ → Result Action OptionName → Type 0
+IsClearing path day read = read ≡ Ok (report_in kinds.Clearing path day)
 
--- what `clearing` or `report` is asked for: the file first, then the day
-abbrev pub AsksReport : ReportKind → OptionTexts → Result Action OptionName → Type 0
-AsksReport kind texts = Then (FileIs texts) (ReportIn kind texts)
+abbrev pub ClearingIn : OptionTexts → String Global → Result Action OptionName → Type 0
+ClearingIn texts path = Then (DayIs texts) (IsClearing path)
+
+-- what `clearing` is asked for: the file first, then the day
+abbrev pub AsksClearing : OptionTexts → Result Action OptionName → Type 0
+AsksClearing texts = Then (FileIs texts) (ClearingIn texts)
+
+-- the settlement report, as CSV where that is asked for
+abbrev pub settlement_by : Bool → String Global → ℕ → Action
+settlement_by true path day = actions.ReportCsv (record { path = path; day = day })
+settlement_by false path day = report_in kinds.Settlement path day
+
+abbrev pub IsReport : OptionTexts → String Global → ℕ → Result Action OptionName → Type 0
+IsReport texts path day read = read ≡ Ok (settlement_by (is_set texts.csv) path day)
+
+abbrev pub ReportIn : OptionTexts → String Global → Result Action OptionName → Type 0
+ReportIn texts path = Then (DayIs texts) (IsReport texts path)
+
+-- what `report` is asked for: the file first, then the day
+abbrev pub AsksReport : OptionTexts → Result Action OptionName → Type 0
+AsksReport texts = Then (FileIs texts) (ReportIn texts)
+
+-- the days from a first to a last one: without one, the first alone
+abbrev pub days_between : ℕ → Option ℕ → Days
+days_between first last = record { first = first; last = unwrap_or last first }
+
+-- these days, the last of which doesn't lie before the first
+abbrev pub unless_before : Days → Result Days OptionName
+unless_before days = if nat_lt days.last days.first then Err option.To else Ok days
+
+abbrev pub IsSpan : Days → Result Days OptionName → Type 0
+IsSpan days read = read ≡ unless_before days
+
+abbrev pub AreDays : ℕ → Option ℕ → Result Days OptionName → Type 0
+AreDays first last = IsSpan (days_between first last)
+
+abbrev pub DaysFrom : OptionTexts → ℕ → Result Days OptionName → Type 0
+DaysFrom texts first = Then (LastDayIfThere texts) (AreDays first)
+
+-- the days of a statement: the first one first, then the last
+abbrev pub DaysAre : OptionTexts → Result Days OptionName → Type 0
+DaysAre texts = Then (DayIs texts) (DaysFrom texts)
+
+-- a statement of these merchants of the book in this file, on these days, in this form
+abbrev pub IsStatement
+    : OptionTexts → String Global → Days → List (List ℕ) → Result Action OptionName → Type 0
+IsStatement texts path days merchants (Ok (actions.Statement asked)) =
+    (asked.path ≡ path) × (asked.merchants.items ≡ merchants) × (asked.days ≡ days)
+    × (asked.form ≡ statement_form_by texts.csv)
+IsStatement texts path days merchants other = ⊥
+
+abbrev pub StatementOn
+    : OptionTexts → String Global → Days → Result Action OptionName → Type 0
+StatementOn texts path days = Then (MerchantsAre texts) (IsStatement texts path days)
+
+abbrev pub StatementIn : OptionTexts → String Global → Result Action OptionName → Type 0
+StatementIn texts path = Then (DaysAre texts) (StatementOn texts path)
+
+-- what `statement` is asked for: the file first, then the days, then the merchants
+abbrev pub AsksStatement : OptionTexts → Result Action OptionName → Type 0
+AsksStatement texts = Then (FileIs texts) (StatementIn texts)
+
+-- by this reference, this terminal, this trace number, these last digits of a card and this day
+abbrev pub IsSought : Option ℕ → Option (List ℕ) → Option (List ℕ) → Option (List ℕ) → Option ℕ
+    → Result Sought OptionName → Type 0
+IsSought reference terminal trace card_ends day read =
+    read ≡ Ok (record {
+      reference = reference;
+      terminal = terminal;
+      trace = trace;
+      card_ends = card_ends;
+      day = day;
+    })
+
+abbrev pub SoughtOn : OptionTexts → Option ℕ → Option (List ℕ) → Option (List ℕ)
+    → Option (List ℕ) → Result Sought OptionName → Type 0
+SoughtOn texts reference terminal trace card_ends =
+    Then (DayIfThere texts) (IsSought reference terminal trace card_ends)
+
+abbrev pub SoughtWith : OptionTexts → Option ℕ → Option (List ℕ) → Option (List ℕ)
+    → Result Sought OptionName → Type 0
+SoughtWith texts reference terminal trace =
+    Then (CardEndsIfThere texts) (SoughtOn texts reference terminal trace)
+
+abbrev pub SoughtAt : OptionTexts → Option ℕ → Option (List ℕ)
+    → Result Sought OptionName → Type 0
+SoughtAt texts reference terminal =
+    Then (TraceIfThere texts) (SoughtWith texts reference terminal)
+
+abbrev pub SoughtBy : OptionTexts → Option ℕ → Result Sought OptionName → Type 0
+SoughtBy texts reference = Then (TerminalIfThere texts) (SoughtAt texts reference)
+
+-- by what a request is looked for: the reference first, then the terminal, then the trace number,
+-- then the last digits of the card, then the day
+abbrev pub SoughtIs : OptionTexts → Result Sought OptionName → Type 0
+SoughtIs texts = Then (ReferenceIfThere texts) (SoughtBy texts)
+
+-- what is asked for: by a reference alone, by a terminal and a trace number, or by the last digits
+-- of a card and a day
+abbrev pub inquiry_by : Option ℕ → Option (List ℕ) → Option (List ℕ) → Option (List ℕ) → Option ℕ
+    → Option Inquiry
+inquiry_by (Some reference) None None None None = Some (inquiry.Reference reference)
+inquiry_by None (Some terminal) (Some trace) None None = Some (inquiry.Trace terminal trace)
+inquiry_by None None None (Some digits) (Some day) = Some (inquiry.CardEnds digits day)
+inquiry_by _ _ _ _ _ = None
+
+abbrev pub inquiry_of : Sought → Option Inquiry
+inquiry_of sought =
+    inquiry_by sought.reference sought.terminal sought.trace sought.card_ends sought.day
+
+-- this is looked for, unless the options are of no one way to ask
+abbrev pub find_by : String Global → List ℕ → Option Inquiry → Result Action OptionName
+find_by path merchant None = Err option.Reference
+find_by path merchant (Some asked) =
+    Ok (actions.Find (record { path = path; merchant = merchant; inquiry = asked }))
+
+abbrev pub IsFind : String Global → List ℕ → Sought → Result Action OptionName → Type 0
+IsFind path merchant sought read = read ≡ find_by path merchant (inquiry_of sought)
+
+abbrev pub FindOf : OptionTexts → String Global → List ℕ → Result Action OptionName → Type 0
+FindOf texts path merchant = Then (SoughtIs texts) (IsFind path merchant)
+
+abbrev pub FindIn : OptionTexts → String Global → Result Action OptionName → Type 0
+FindIn texts path = Then (MerchantIs texts) (FindOf texts path)
+
+-- what `find` is asked for: the file first, then the merchant, then by what
+abbrev pub AsksFind : OptionTexts → Result Action OptionName → Type 0
+AsksFind texts = Then (FileIs texts) (FindIn texts)
 
 -- the open holds of this merchant at this moment
 abbrev pub IsHolds : String Global → List ℕ → ℕ → Result Action OptionName → Type 0
@@ -277,6 +410,20 @@ ListIn texts path = Then (ListingIs texts) (IsList path)
 -- what `list` is asked for: the file first, then what is listed
 abbrev pub AsksList : OptionTexts → Result Action OptionName → Type 0
 AsksList texts = Then (FileIs texts) (ListIn texts)
+
+-- the list in this file for the book in this one, told alone or taken
+abbrev pub IsRanges
+    : OptionTexts → String Global → String Global → Result Action OptionName → Type 0
+IsRanges texts path list read =
+    read ≡ Ok (actions.Ranges
+    (record { path = path; list = list; is_dry = is_set texts.dry_run }))
+
+abbrev pub RangesIn : OptionTexts → String Global → Result Action OptionName → Type 0
+RangesIn texts path = Then (ListFileIs texts) (IsRanges texts path)
+
+-- what `ranges` is asked for: the book's file first, then the list's
+abbrev pub AsksRanges : OptionTexts → Result Action OptionName → Type 0
+AsksRanges texts = Then (FileIs texts) (RangesIn texts)
 
 -- answers to what is pending in this book on this day, by this file of issuers' answers, at this
 -- moment
@@ -403,8 +550,8 @@ Asks (Some command) asked =
     Names (codes "init") AsksInit command asked
     ⊎ Names (codes "once") AsksOnce command asked
     ⊎ Names (codes "replay") AsksReplay command asked
-    ⊎ Names (codes "clearing") (AsksReport kinds.Clearing) command asked
-    ⊎ Names (codes "report") (AsksReport kinds.Settlement) command asked
+    ⊎ Names (codes "clearing") AsksClearing command asked
+    ⊎ Names (codes "report") AsksReport command asked
     ⊎ Names (codes "holds") AsksHolds command asked
     ⊎ Names (codes "show") AsksShow command asked
     ⊎ Names (codes "listen") AsksListen command asked
@@ -416,6 +563,9 @@ Asks (Some command) asked =
     ⊎ Names (codes "ask") AsksAsk command asked
     ⊎ Names (codes "explain") AsksExplain command asked
     ⊎ Names (codes "list") AsksList command asked
+    ⊎ Names (codes "statement") AsksStatement command asked
+    ⊎ Names (codes "find") AsksFind command asked
+    ⊎ Names (codes "ranges") AsksRanges command asked
 
 -- nothing is wrong with the words by clap's rules, and they ask for this
 abbrev pub AsksFor : List Text → Result Action OptionName → Type 0

@@ -6,6 +6,7 @@ pub mod Apart
 pub mod Options
 pub mod Arguments
 pub mod Program
+pub mod WantedMerchants
 pub mod WantedReports
 pub mod Parameters
 pub mod Commands

@@ -1,5 +1,5 @@
 -- What the options hold, by the texts that stand for them.
-use Rattle.std.specs.Prelude.{◌≡◌, ◌-◌, ◌^◌, ℕ, Bool, ◌&&◌, nat_le, List, [], ◌∷◌}
+use Rattle.std.specs.Prelude.{◌≡◌, ◌-◌, ◌^◌, ◌==◌, ℕ, Bool, ◌&&◌, nat_le, List, [], ◌∷◌}
 use Rattle.std.specs.Prelude.{length}
 use Rattle.std.specs.Prelude.{codes}
 use Rattle.std.specs.Prelude.{map, Option, Some, None, unwrap_or, option_map, option_and_then}
@@ -22,9 +22,12 @@ use Rattle.day_totals.specs.Day.{IsNoDateText, date_text_of}
 use Rattle.acq_core.specs.Numbers.{is_limit}
 use Rattle.acq_make.specs.declared.made_form.MadeForm.{MadeForm}
 use Rattle.acq_make.specs.declared.made_form.MadeForm.TheVariants as made
-use Rattle.acq_out.specs.Fields.{merchant_of_text, moment_of_text}
+use Rattle.acq_message.specs.Names.{is_trace}
+use Rattle.acq_out.specs.Fields.{merchant_of_text, moment_of_text, terminal_of_text}
 use Rattle.acq_directory.specs.Listings.{listing_named}
 use Rattle.acq_directory.specs.declared.listing.Listing.{Listing}
+use Rattle.acq_statement.specs.declared.statement_form.StatementForm.{StatementForm}
+use Rattle.acq_statement.specs.declared.statement_form.StatementForm.TheVariants as statement
 use Rattle.acq_faults.specs.declared.day_report.DayReport.{DayReport}
 use Rattle.acq_commands.specs.declared.input_form.InputForm.{InputForm}
 use Rattle.acq_commands.specs.declared.input_form.InputForm.TheVariants as form
@@ -35,6 +38,8 @@ use Rattle.acq_commands.specs.declared.shown_form.ShownForm.TheVariants as shown
 use Rattle.acq_json.specs.declared.card_form.CardForm.TheVariants as card
 use Rattle.acq_program.specs.declared.option_name.OptionName.{OptionName}
 use Rattle.acq_program.specs.declared.option_name.OptionName.TheVariants as option
+use Rattle.acq_program.specs.declared.page_sums.PageSums.{PageSums}
+use Rattle.acq_program.specs.declared.page_sums.PageSums.TheVariants as sums
 use Rattle.acq_faults.specs.declared.report_kind.ReportKind.{ReportKind}
 use Rattle.acq_faults.specs.declared.report_kind.ReportKind.TheVariants as kinds
 
@@ -68,6 +73,12 @@ name_of_option option.Repeat = codes "--repeat"
 name_of_option option.Whole = codes "--whole"
 name_of_option option.Path = codes "PATH"
 name_of_option option.What = codes "WHAT"
+name_of_option option.Reference = codes "--reference"
+name_of_option option.Terminal = codes "--terminal"
+name_of_option option.Trace = codes "--trace"
+name_of_option option.CardEnds = codes "--card-ends"
+name_of_option option.To = codes "--to"
+name_of_option option.Set = codes "--set"
 name_of_option (option.Report kinds.Clearing) = codes "--clearing"
 name_of_option (option.Report kinds.Settlement) = codes "--report"
 
@@ -107,6 +118,16 @@ pub record OptionTexts : Type 0 where
   pub repeat : Option Text
   pub path : Option Text
   pub what : Option Text
+  pub sums : Option Text
+  pub csv : Option Text
+  pub merchants : List Text
+  pub reference : Option Text
+  pub terminal : Option Text
+  pub trace : Option Text
+  pub card_ends : Option Text
+  pub to : Option Text
+  pub set : Option Text
+  pub dry_run : Option Text
 
 -- all values of an option
 abbrev pub values_of : Text → List Row → List Text
@@ -149,6 +170,16 @@ option_texts rows = record {
   repeat = first_of (codes "repeat") rows;
   path = first_of (codes "path") rows;
   what = first_of (codes "what") rows;
+  sums = first_of (codes "sums") rows;
+  csv = first_of (codes "csv") rows;
+  merchants = values_of (codes "merchant") rows;
+  reference = first_of (codes "reference") rows;
+  terminal = first_of (codes "terminal") rows;
+  trace = first_of (codes "trace") rows;
+  card_ends = first_of (codes "card-ends") rows;
+  to = first_of (codes "to") rows;
+  set = first_of (codes "set") rows;
+  dry_run = first_of (codes "dry-run") rows;
 }
 
 -- all values of an option, as they were found
@@ -192,6 +223,16 @@ found_texts found = record {
   repeat = first_value found (codes "repeat");
   path = first_value found (codes "path");
   what = first_value found (codes "what");
+  sums = first_value found (codes "sums");
+  csv = first_value found (codes "csv");
+  merchants = values_found found (codes "merchant");
+  reference = first_value found (codes "reference");
+  terminal = first_value found (codes "terminal");
+  trace = first_value found (codes "trace");
+  card_ends = first_value found (codes "card-ends");
+  to = first_value found (codes "to");
+  set = first_value found (codes "set");
+  dry_run = first_value found (codes "dry-run");
 }
 
 -- ---- the value of an option, or the name of the option where it has none in its form
@@ -250,6 +291,11 @@ abbrev pub FileIs : OptionTexts → Result (String Global) OptionName → Type 0
 FileIs texts (Ok path) = texts.db ≡ Some (string_bytes path)
 FileIs texts (Err name) = (name ≡ option.Db) × (texts.db ≡ None)
 
+-- the path of the file of a list of ranges
+abbrev pub ListFileIs : OptionTexts → Result (String Global) OptionName → Type 0
+ListFileIs texts (Ok path) = texts.set ≡ Some (string_bytes path)
+ListFileIs texts (Err name) = (name ≡ option.Set) × (texts.set ≡ None)
+
 -- the limit, the greatest where the option isn't there
 abbrev pub LimitIs : OptionTexts → Result ℕ OptionName → Type 0
 LimitIs texts read =
@@ -287,6 +333,59 @@ GroupIs texts read = read ≡ group_if_there texts.group
 abbrev pub MerchantIs : OptionTexts → Result (List ℕ) OptionName → Type 0
 MerchantIs texts read =
     read ≡ ok_or (option_and_then merchant_of_text texts.merchant) option.Merchant
+
+-- the merchants that an option's values name, as event lines have them
+abbrev pub GivesMerchants : List Text → List (List ℕ) → Type 0
+GivesMerchants texts merchants = map merchant_of_text texts ≡ map (λ name. Some name) merchants
+
+-- one of an option's values names no merchant
+abbrev pub GivesNoMerchants : List Text → Type 0
+GivesNoMerchants texts =
+    (at : ℕ) × (text : Text) × (slice_get texts at ≡ Some text) × (merchant_of_text text ≡ None)
+
+-- the merchants, or the option's name where one of its values is out of form
+abbrev pub MerchantsAre : OptionTexts → Result (List (List ℕ)) OptionName → Type 0
+MerchantsAre texts (Ok merchants) = GivesMerchants texts.merchants merchants
+MerchantsAre texts (Err name) = (name ≡ option.Merchant) × GivesNoMerchants texts.merchants
+
+-- the last day of a statement, written YYYY-MM-DD, where the option is there
+abbrev pub LastDayIfThere : OptionTexts → Result (Option ℕ) OptionName → Type 0
+LastDayIfThere texts (Ok None) = texts.to ≡ None
+LastDayIfThere texts (Ok (Some day)) = texts.to ≡ Some (date_text_of day)
+LastDayIfThere texts (Err name) = (name ≡ option.To) × GivesNoDay texts.to
+
+-- a value of an option, where there is a text
+abbrev pub value_if_there
+    : {A : Type 0} → (Text → Option A) → OptionName → Option Text → Result (Option A) OptionName
+value_if_there value_of name None = Ok None
+value_if_there value_of name (Some text) = ok_or (option_map (λ x. Some x) (value_of text)) name
+
+-- a reference, of 1 to 12 digits
+abbrev pub reference_of_text : Text → Option ℕ
+reference_of_text text = number_of_text 12 0 999999999999 text
+
+abbrev pub ReferenceIfThere : OptionTexts → Result (Option ℕ) OptionName → Type 0
+ReferenceIfThere texts read =
+    read ≡ value_if_there reference_of_text option.Reference texts.reference
+
+-- a terminal, as event lines have it
+abbrev pub TerminalIfThere : OptionTexts → Result (Option (List ℕ)) OptionName → Type 0
+TerminalIfThere texts read = read ≡ value_if_there terminal_of_text option.Terminal texts.terminal
+
+-- a trace number, of six digits
+abbrev pub trace_of_text : Text → Option (List ℕ)
+trace_of_text text = if is_trace text then Some text else None
+
+abbrev pub TraceIfThere : OptionTexts → Result (Option (List ℕ)) OptionName → Type 0
+TraceIfThere texts read = read ≡ value_if_there trace_of_text option.Trace texts.trace
+
+-- the last four digits of a card number
+abbrev pub card_ends_of_text : Text → Option (List ℕ)
+card_ends_of_text text =
+    if length text == 4 && list_all is_ascii_digit text then Some text else None
+
+abbrev pub CardEndsIfThere : OptionTexts → Result (Option (List ℕ)) OptionName → Type 0
+CardEndsIfThere texts read = read ≡ value_if_there card_ends_of_text option.CardEnds texts.card_ends
 
 -- what is listed: `merchants`, `terminals` or `ranges`
 abbrev pub ListingIs : OptionTexts → Result Listing OptionName → Type 0
@@ -425,6 +524,14 @@ is_set (Some text) = bytes_eq text (codes "true")
 -- the form of the input: lines of hexadecimal where the flag is there, else what it is by itself
 abbrev pub form_of_flag : Option Text → InputForm
 form_of_flag text = if is_set text then form.HexLines else form.Plain
+
+-- whether the pages of a new book's file have sums
+abbrev pub page_sums_by : Option Text → PageSums
+page_sums_by text = if is_set text then sums.With else sums.Without
+
+-- the form of a statement: CSV where the flag is there
+abbrev pub statement_form_by : Option Text → StatementForm
+statement_form_by text = if is_set text then statement.Csv else statement.Text
 
 -- how messages are shown: as text, or as JSON where that flag is there, and then with cards whole
 -- where that one is, too

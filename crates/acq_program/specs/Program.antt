@@ -26,11 +26,12 @@ place name = record (new_rule name) { action = Some Set; value_names = 1; requir
 abbrev pub flag : Text → Rule
 flag name = record (new_rule name) { long = Some name; action = Some SetTrue }
 
--- `init --db FILE --limit N --day DAY`
+-- `init --db FILE --limit N --day DAY [--sums]`
 abbrev pub init : App
 init =
-    with_rule (with_rule (with_rule (new_app (codes "init"))
-    (required (codes "db"))) (required (codes "limit"))) (required (codes "day"))
+    with_rule (with_rule (with_rule (with_rule (new_app (codes "init"))
+    (required (codes "db"))) (required (codes "limit"))) (required (codes "day")))
+    (flag (codes "sums"))
 
 -- `migrate --db FILE`
 abbrev pub migrate : App
@@ -67,10 +68,34 @@ replay =
     (option (codes "group"))) (option_with_value (codes "clearing") Append))
     (option_with_value (codes "report") Append)
 
--- `clearing --db FILE --day DAY`, or `report` with the same options
-abbrev pub on_a_day : Text → App
-on_a_day name =
-    with_rule (with_rule (new_app name) (required (codes "db"))) (required (codes "day"))
+-- `clearing --db FILE --day DAY`
+abbrev pub clearing : App
+clearing =
+    with_rule (with_rule (new_app (codes "clearing")) (required (codes "db")))
+    (required (codes "day"))
+
+-- `report --db FILE --day DAY [--csv]`
+abbrev pub report : App
+report =
+    with_rule (with_rule (with_rule (new_app (codes "report"))
+    (required (codes "db"))) (required (codes "day"))) (flag (codes "csv"))
+
+-- `statement --db FILE [--merchant MERCHANT].. --day DAY [--to DAY] [--csv]`
+abbrev pub statement : App
+statement =
+    with_rule (with_rule (with_rule (with_rule (with_rule (new_app (codes "statement"))
+    (required (codes "db"))) (option_with_value (codes "merchant") Append))
+    (required (codes "day"))) (option (codes "to"))) (flag (codes "csv"))
+
+-- `find --db FILE --merchant MERCHANT`, and `--reference REFERENCE`, or `--terminal TERMINAL
+-- --trace TRACE`, or `--card-ends DIGITS --day DAY`
+abbrev pub find : App
+find =
+    with_rule (with_rule (with_rule (with_rule (with_rule (with_rule (with_rule
+    (new_app (codes "find"))
+    (required (codes "db"))) (required (codes "merchant"))) (option (codes "reference")))
+    (option (codes "terminal"))) (option (codes "trace"))) (option (codes "card-ends")))
+    (option (codes "day"))
 
 -- `holds --db FILE --merchant MERCHANT --at MOMENT`
 abbrev pub holds : App
@@ -81,6 +106,12 @@ holds =
 -- `list --db FILE WHAT`
 abbrev pub list : App
 list = with_rule (with_rule (new_app (codes "list")) (place (codes "what"))) (required (codes "db"))
+
+-- `ranges --db FILE --set LIST [--dry-run]`
+abbrev pub ranges : App
+ranges =
+    with_rule (with_rule (with_rule (new_app (codes "ranges"))
+    (required (codes "db"))) (required (codes "set"))) (flag (codes "dry-run"))
 
 -- `pending --db FILE [--day DAY] [--issuers FILE] [--at MOMENT]`
 abbrev pub pending : App
@@ -137,7 +168,7 @@ program =
     with_subcommand (with_subcommand (with_subcommand (with_subcommand (with_subcommand
     (with_subcommand (with_subcommand (with_subcommand (with_subcommand (with_subcommand
     (with_subcommand (with_subcommand (with_subcommand (with_subcommand (with_subcommand
-    (with_subcommand acqd
+    (with_subcommand (with_subcommand (with_subcommand (with_subcommand acqd
     init.top) migrate.top) once.top) listen.top) replay.top)
-    (on_a_day (codes "clearing")).top) (on_a_day (codes "report")).top) holds.top) list.top)
-    pending.top) show.top) make.top) ask.top) explain.top) tell.top) status.top
+    clearing.top) report.top) statement.top) find.top) holds.top) list.top)
+    ranges.top) pending.top) show.top) make.top) ask.top) explain.top) tell.top) status.top

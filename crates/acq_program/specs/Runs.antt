@@ -110,7 +110,7 @@ status_in (Err fault) = status_of fault
 -- What was asked is done.
 abbrev pub Does : Action → Option (List ℕ) → (received sent told : Stream)
     → Result ℕ Fault → Type 0
-Does (Init new) remaining received sent told ended =
+Does (Init new sums) remaining received sent told ended =
     EndsPlainly (λ _. IsUntouched received sent) ended
 Does (Migrate path) remaining received sent told ended =
     EndsPlainly (λ _. IsUntouched received sent) ended
@@ -124,9 +124,17 @@ Does (Replay options) remaining received sent told ended =
     × ReadsWhole remaining received.before received.after plain) ended
 Does (Report options) remaining received sent told ended =
     EndsPlainly (λ _. received.after ≡ received.before) ended
+Does (actions.ReportCsv asked) remaining received sent told ended =
+    EndsPlainly (λ _. received.after ≡ received.before) ended
+Does (actions.Statement asked) remaining received sent told ended =
+    EndsPlainly (λ _. received.after ≡ received.before) ended
+Does (actions.Find asked) remaining received sent told ended =
+    EndsPlainly (λ _. received.after ≡ received.before) ended
 Does (Holds options) remaining received sent told ended =
     EndsPlainly (λ _. received.after ≡ received.before) ended
 Does (actions.List asked) remaining received sent told ended =
+    EndsPlainly (λ _. received.after ≡ received.before) ended
+Does (actions.Ranges asked) remaining received sent told ended =
     EndsPlainly (λ _. received.after ≡ received.before) ended
 Does (Pending asked) remaining received sent told ended =
     EndsPlainly (λ _. received.after ≡ received.before) ended

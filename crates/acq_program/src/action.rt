@@ -1,8 +1,13 @@
 //! What the program is asked to do.
 
 use crate::ask_options::AskOptions;
+use crate::csv_options::CsvOptions;
+use crate::find_options::FindOptions;
 use crate::list_options::ListOptions;
+use crate::page_sums::PageSums;
 use crate::pending_options::PendingOptions;
+use crate::ranges_options::RangesOptions;
+use crate::statement_options::StatementOptions;
 use crate::tell_options::TellOptions;
 use acq_commands::{
     BookReport, ExplainOptions, HoldsOptions, InputForm, NewBook, OnceOptions, ReplayOptions,
@@ -14,8 +19,8 @@ use acq_make::MadeForm;
 /// What the program is asked to do.
 #[derive(Drop)]
 pub enum Action {
-    /// Make a new book in a file.
-    Init(NewBook),
+    /// Make a new book in a file, whose pages have sums or none.
+    Init(NewBook, PageSums),
     /// Migrate the book of an earlier version in the file at this path.
     Migrate(String),
     /// Answer the frames of the input, once, over a new book or the one in a file.
@@ -26,10 +31,18 @@ pub enum Action {
     Replay(ReplayOptions),
     /// Write a report on the book in a file.
     Report(BookReport),
+    /// Write the settlement report on the book in a file, as CSV.
+    ReportCsv(CsvOptions),
+    /// Write a statement of merchants.
+    Statement(StatementOptions),
+    /// Write what became of a request.
+    Find(FindOptions),
     /// Write the open holds of a merchant.
     Holds(HoldsOptions),
     /// Write the merchants, the terminals or the ranges of the book in a file.
     List(ListOptions),
+    /// Make a list the ranges of the book in a file.
+    Ranges(RangesOptions),
     /// Write answers to the requests that are pending.
     Pending(PendingOptions),
     /// Show the messages of the input, which stand there in this form, so.

@@ -3,36 +3,49 @@
 ghost use Rattle.std.specs.Prelude.{◌≡◌, [], List, map};
 ghost use Rattle.clap.specs.Words.{HasMatchesOf, Text, fault_of, found_of};
 ghost use Rattle.acq_program.specs.Program.{program};
-ghost use Rattle.acq_program.specs.Arguments.{AsksAsk, AsksExplain, AsksHolds, AsksInit, AsksList};
-ghost use Rattle.acq_program.specs.Arguments.{AsksListen, AsksMake, AsksMigrate, AsksOnce};
-ghost use Rattle.acq_program.specs.Arguments.{AsksPending, AsksReplay, AsksReport, AsksShow};
-ghost use Rattle.acq_program.specs.Arguments.{AsksStatus, AsksTell, BoundsAre, EndpointIs};
-ghost use Rattle.acq_program.specs.Arguments.{ExplainedIs, ListenedIs, PatienceIs, Reads};
-ghost use Rattle.acq_program.specs.Arguments.{ReadsArguments, takes_both};
+ghost use Rattle.acq_program.specs.Arguments.{AsksAsk, AsksClearing, AsksExplain, AsksFind};
+ghost use Rattle.acq_program.specs.Arguments.{AsksHolds, AsksInit, AsksList, AsksListen, AsksMake};
+ghost use Rattle.acq_program.specs.Arguments.{AsksMigrate, AsksOnce, AsksPending, AsksRanges};
+ghost use Rattle.acq_program.specs.Arguments.{AsksReplay, AsksReport, AsksShow, AsksStatement};
+ghost use Rattle.acq_program.specs.Arguments.{AsksStatus, AsksTell, BoundsAre, DaysAre, EndpointIs};
+ghost use Rattle.acq_program.specs.Arguments.{ExplainedIs, IsSpan, ListenedIs, PatienceIs};
+ghost use Rattle.acq_program.specs.Arguments.{Reads, ReadsArguments, SoughtIs, settlement_by};
+ghost use Rattle.acq_program.specs.Arguments.{takes_both};
 ghost use Rattle.acq_program.specs.Options.{found_texts};
 
 use crate::action::Action;
 use crate::apart::clash_in;
 use crate::ask_options::AskOptions;
 use crate::bounds::Bounds;
+use crate::csv_options::CsvOptions;
+use crate::find_options::FindOptions;
 use crate::list_options::ListOptions;
 use crate::option_name::OptionName;
 use crate::option_values::{
-    address_option, answer_within_option, book_option, control_option, count_option, day_if_there,
-    day_option, events_option, file_option, form_of, frame_within_option, from_one_address_option,
-    gateway_option, gateway_within_option, group_option, idle_option, is_set, issuers_option,
-    limit_option, listing_option, log_bytes_option, log_option, made_form_option, merchant_option,
-    moment_if_there, moment_option, path_value, port_option, repeat_if_there, reply_within_option,
-    said_form_of, shown_form_option, stop_within_option, together_option, within_option,
+    address_option, answer_within_option, book_option, card_ends_if_there, control_option,
+    count_option, day_if_there, day_option, events_option, file_option, form_of,
+    frame_within_option, from_one_address_option, gateway_option, gateway_within_option,
+    group_option, idle_option, is_set, issuers_option, last_day_if_there, limit_option,
+    list_file_option, listing_option, log_bytes_option, log_option, made_form_option,
+    merchant_option, moment_if_there, moment_option, page_sums_of, path_value, port_option,
+    reference_if_there, repeat_if_there, reply_within_option, said_form_of, shown_form_option,
+    statement_form_of, stop_within_option, terminal_if_there, together_option, trace_if_there,
+    within_option,
 };
 use crate::pending_options::PendingOptions;
 use crate::program::program;
+use crate::ranges_options::RangesOptions;
+use crate::sought::Sought;
+use crate::statement_options::StatementOptions;
 use crate::tell_options::TellOptions;
 use crate::usage_fault::UsageFault;
+use crate::wanted_merchants::merchants_in;
 use crate::wanted_reports::add_reports;
 use acq_commands::{BookReport, ExplainOptions, HoldsOptions, NewBook, OnceOptions, ReplayOptions};
 use acq_faults::{DayReport, ListenOptions, Patience, ReportKind};
+use acq_statement::Days;
 use clap::{ArgMatches, Error};
+use day_totals::Day;
 use std::alloc::{AllocError, Global};
 use std::convert::AsStr;
 use std::net::SocketAddrV4;
@@ -64,17 +77,30 @@ fn asked_in(alloc: Global, matches: &ArgMatches) -> Result<Action, UsageFault>
     }
 }
 
-/// The same of the commands that only write texts. They are apart, since a proof of all names at
-/// once takes four times as long.
+/// The same of the commands that write what is settled, and what became of it. They are apart, since
+/// a proof of all names at once takes four times as long.
 fn reports_asked_in(alloc: Global, matches: &ArgMatches) -> Result<Action, UsageFault>
     ensures { (words : List Text) → fault_of program words ≡ []
         → HasMatchesOf program words matches.now → ReadsArguments words result }
 {
     match matches.subcommand() {
-        Some(("clearing", options)) => report_of(alloc, ReportKind::Clearing, options),
-        Some(("report", options)) => report_of(alloc, ReportKind::Settlement, options),
+        Some(("clearing", options)) => clearing_of(alloc, options),
+        Some(("report", options)) => report_of(alloc, options),
+        Some(("statement", options)) => statement_of(alloc, options),
+        Some(("find", options)) => find_of(alloc, options),
+        _ => texts_asked_in(alloc, matches),
+    }
+}
+
+/// The same of the commands about what stands open, what is enrolled, and what is in messages.
+fn texts_asked_in(alloc: Global, matches: &ArgMatches) -> Result<Action, UsageFault>
+    ensures { (words : List Text) → fault_of program words ≡ []
+        → HasMatchesOf program words matches.now → ReadsArguments words result }
+{
+    match matches.subcommand() {
         Some(("holds", options)) => holds_of(alloc, options),
         Some(("list", options)) => list_of(alloc, options),
+        Some(("ranges", options)) => ranges_of(alloc, options),
         Some(("pending", options)) => pending_of(alloc, options),
         Some(("show", options)) => show_of(options),
         _ => talks_asked_in(alloc, matches),
@@ -103,11 +129,12 @@ fn init_of(alloc: Global, options: &ArgMatches) -> Result<Action, UsageFault>
     let path = file_option(alloc, options)?;
     let limit = limit_option(options)?;
     let first_day = day_option(options)?;
-    Ok(Action::Init(NewBook {
+    let new = NewBook {
         path,
         limit,
         first_day,
-    }))
+    };
+    Ok(Action::Init(new, page_sums_of(options)))
 }
 
 /// What `migrate` is asked for.
@@ -203,14 +230,113 @@ fn replay_of(alloc: Global, options: &ArgMatches) -> Result<Action, UsageFault>
     }))
 }
 
-/// What a command that writes a report of a kind is asked for.
-fn report_of(alloc: Global, kind: ReportKind, options: &ArgMatches) -> Result<Action, UsageFault>
-    ensures { Reads (AsksReport kind (found_texts (found_of options.now))) result }
+/// What `clearing` is asked for.
+fn clearing_of(alloc: Global, options: &ArgMatches) -> Result<Action, UsageFault>
+    ensures { Reads (AsksClearing (found_texts (found_of options.now))) result }
 {
     let path = file_option(alloc, options)?;
     let day = day_option(options)?;
-    let report = DayReport { kind, day };
+    let report = DayReport {
+        kind: ReportKind::Clearing,
+        day,
+    };
     Ok(Action::Report(BookReport { path, report }))
+}
+
+/// What `report` is asked for.
+fn report_of(alloc: Global, options: &ArgMatches) -> Result<Action, UsageFault>
+    ensures { Reads (AsksReport (found_texts (found_of options.now))) result }
+{
+    let path = file_option(alloc, options)?;
+    let day = day_option(options)?;
+    Ok(settlement_by(is_set(options, "csv"), path, day))
+}
+
+/// The settlement report of a day, as CSV where that is asked for.
+fn settlement_by(csv: bool, path: String, day: Day) -> Action
+    ensures { result ≡ settlement_by csv path day }
+{
+    if csv {
+        return Action::ReportCsv(CsvOptions { path, day });
+    }
+    let report = DayReport {
+        kind: ReportKind::Settlement,
+        day,
+    };
+    Action::Report(BookReport { path, report })
+}
+
+/// What `statement` is asked for.
+fn statement_of(alloc: Global, options: &ArgMatches) -> Result<Action, UsageFault>
+    ensures { Reads (AsksStatement (found_texts (found_of options.now))) result }
+{
+    let path = file_option(alloc, options)?;
+    let days = days_of(options)?;
+    let merchants = merchants_in(alloc, options.get_strs("merchant"))?;
+    Ok(Action::Statement(StatementOptions {
+        path,
+        merchants,
+        days,
+        form: statement_form_of(options),
+    }))
+}
+
+/// The days of a statement, the last of which doesn't lie before the first.
+fn days_of(options: &ArgMatches) -> Result<Days, UsageFault>
+    ensures { Reads (DaysAre (found_texts (found_of options.now))) result }
+{
+    let first = day_option(options)?;
+    let last = last_day_if_there(options)?;
+    unless_before(Days {
+        first,
+        last: last.unwrap_or(first),
+    })
+}
+
+/// These days, unless the last lies before the first.
+fn unless_before(days: Days) -> Result<Days, UsageFault>
+    ensures { Reads (IsSpan days) result }
+{
+    if days.last.number() < days.first.number() {
+        Err(UsageFault::BadValue(OptionName::To))
+    } else {
+        Ok(days)
+    }
+}
+
+/// What `find` is asked for.
+fn find_of(alloc: Global, options: &ArgMatches) -> Result<Action, UsageFault>
+    ensures { Reads (AsksFind (found_texts (found_of options.now))) result }
+{
+    let path = file_option(alloc, options)?;
+    let merchant = merchant_option(options)?;
+    let sought = sought_of(options)?;
+    match sought.inquiry() {
+        Some(inquiry) => Ok(Action::Find(FindOptions {
+            path,
+            merchant,
+            inquiry,
+        })),
+        None => Err(UsageFault::BadValue(OptionName::Reference)),
+    }
+}
+
+/// By what a request is looked for.
+fn sought_of(options: &ArgMatches) -> Result<Sought, UsageFault>
+    ensures { Reads (SoughtIs (found_texts (found_of options.now))) result }
+{
+    let reference = reference_if_there(options)?;
+    let terminal = terminal_if_there(options)?;
+    let trace = trace_if_there(options)?;
+    let card_ends = card_ends_if_there(options)?;
+    let day = day_if_there(options)?;
+    Ok(Sought {
+        reference,
+        terminal,
+        trace,
+        card_ends,
+        day,
+    })
 }
 
 /// What `holds` is asked for.
@@ -234,6 +360,19 @@ fn list_of(alloc: Global, options: &ArgMatches) -> Result<Action, UsageFault>
     let path = file_option(alloc, options)?;
     let listing = listing_option(options)?;
     Ok(Action::List(ListOptions { path, listing }))
+}
+
+/// What `ranges` is asked for.
+fn ranges_of(alloc: Global, options: &ArgMatches) -> Result<Action, UsageFault>
+    ensures { Reads (AsksRanges (found_texts (found_of options.now))) result }
+{
+    let path = file_option(alloc, options)?;
+    let list = list_file_option(alloc, options)?;
+    Ok(Action::Ranges(RangesOptions {
+        path,
+        list,
+        is_dry: is_set(options, "dry-run"),
+    }))
 }
 
 /// What `pending` is asked for.

@@ -13,6 +13,10 @@ The file is a database of SQLite; its log stands beside it, under the same name 
 and the two are one: move and copy them together. Where the file holds a book already, or another
 database that isn't empty, it is left as it is.
 
+With --sums each page of the file has a sum, as SQLite's extension cksumvfs keeps it: a page that
+the disk changed is told as 2 when it is read, and not used. sqlite3 without that extension may read
+and dump such a file; what it changes, vacuums or copies by .backup is refused with 2.
+
 The status is 0 where all is well, 1 for a fault, 2 for wrong usage, 3 where memory ran out or the
 file can't be used. A fault is one line on standard error:
   acqd: 1 Memory
@@ -198,7 +202,7 @@ pub(crate) const ABOUT_CLEARING: &str = "Writes the clearing file of a business 
 
 pub(crate) const ABOUT_REPORT: &str = "Writes the settlement report of a business day that is over";
 
-pub(crate) const MORE_OF_REPORTS: &str = "\
+pub(crate) const MORE_OF_CLEARING: &str = "\
 The text goes to standard output. Nothing in the book is changed.
 
 The status is 0 where all is well, 1 for a fault, 2 for wrong usage, 3 where memory ran out or the
@@ -211,6 +215,73 @@ file failed. A fault is one line on standard error, and what was written before 
   acqd: 60 DayNotOver              the business day isn't over
   acqd: 61 StillPending REQUESTS   so many requests of that day have no answer yet; `acqd pending`
                                    writes answers";
+
+pub(crate) const MORE_OF_REPORT: &str = "\
+The text goes to standard output. Nothing in the book is changed. With --csv it is CSV with a header
+line: a record for each merchant with its currency, its counts and amounts, what the acquirer owes
+it (below zero if it owes the acquirer), and what its last reconciliation found; then a record for
+each currency with the sums.
+
+The status is 0 where all is well, 1 for a fault, 2 for wrong usage, 3 where memory ran out or the
+file failed. A fault is one line on standard error, and what was written before it stands:
+  acqd: 1 Memory
+  acqd: 2 Store                    the file can't be opened or read
+  acqd: 40 NotABook                the file holds no book
+  acqd: 41 OtherVersion VERSION    the file holds a book of this other version
+  acqd: 54 Write BYTES             a write failed after so many bytes of the text
+  acqd: 60 DayNotOver              the business day isn't over
+  acqd: 61 StillPending REQUESTS   so many requests of that day have no answer yet; `acqd pending`
+                                   writes answers
+
+Examples:
+  acqd report --db book.db --day 2024-05-01
+  acqd report --db book.db --day 2024-05-01 --csv > settlement.csv";
+
+pub(crate) const ABOUT_STATEMENT: &str =
+    "Writes what merchants are owed, and what their tills claimed";
+
+pub(crate) const MORE_OF_STATEMENT: &str = "\
+For each merchant and day: what each terminal posted, by leg (credits, credit reversals, debits,
+debit reversals), amounts first and counts in brackets; the merchant's sums; each reconciliation,
+with what the till claimed and what the host had then; and who owes whom. At the end stand the sums
+by currency. Amounts are in minor units. With --csv each of these lines is a record. Any day may be
+asked for, today's too. Nothing in the book is changed.
+
+The status is 0 where all is well, 1 for a fault, 2 for wrong usage, 3 where memory ran out or the
+file failed. A fault is one line on standard error, and what was written before it stands:
+  acqd: 1 Memory
+  acqd: 2 Store                    the file can't be opened or read
+  acqd: 37 NoSuchMerchant          a merchant isn't enrolled
+  acqd: 40 NotABook                the file holds no book
+  acqd: 41 OtherVersion VERSION    the file holds a book of this other version
+  acqd: 54 Write BYTES             a write failed after so many bytes of the text
+
+Examples:
+  acqd statement --db book.db --day 2024-05-01
+  acqd statement --db book.db --merchant MERCHANT0000001 --day 2024-05-01 --to 2024-05-31 --csv";
+
+pub(crate) const ABOUT_FIND: &str = "Writes what became of a request";
+
+pub(crate) const MORE_OF_FIND: &str = "\
+The request is asked for by its reference, by its terminal and trace number, or by the last four
+digits of its card and the business day. What follows it stands behind it: a hold's completion,
+a reversal. For each of them a line says what it was, one what the reply was or that it waits for
+its issuer, one where it stands now, and one what was posted; each begins with its business day, its
+terminal and its trace number. Card numbers are masked. Nothing in the book is changed.
+
+The status is 0 where all is well, 1 for a fault, 2 for wrong usage, 3 where memory ran out or the
+file failed. A fault is one line on standard error, and what was written before it stands:
+  acqd: 1 Memory
+  acqd: 2 Store                    the file can't be opened or read
+  acqd: 37 NoSuchMerchant          the merchant isn't enrolled
+  acqd: 40 NotABook                the file holds no book
+  acqd: 41 OtherVersion VERSION    the file holds a book of this other version
+  acqd: 54 Write BYTES             a write failed after so many bytes of the text
+
+Examples:
+  acqd find --db book.db --merchant MERCHANT0000001 --reference 1
+  acqd find --db book.db --merchant MERCHANT0000001 --terminal TERM0001 --trace 000001
+  acqd find --db book.db --merchant MERCHANT0000001 --card-ends 1111 --day 2024-05-01";
 
 pub(crate) const ABOUT_HOLDS: &str = "Writes the open holds of a merchant at a moment";
 
@@ -248,6 +319,33 @@ file failed. A fault is one line on standard error, and what was written before 
 
 Example:
   acqd list terminals --db book.db";
+
+pub(crate) const ABOUT_RANGES: &str = "Makes a list the ranges of a book";
+
+pub(crate) const MORE_OF_RANGES: &str = "\
+LIST is CSV with no header line, a record for each range: LOW,HIGH,ISSUER,HOLD. LOW and HIGH are the
+first eight digits of card numbers, HOLD is how many days a hold lasts. The list is read whole
+first. Then the book's ranges that aren't in it are dropped, and those are added that are new; one
+whose issuer or hold days are others is dropped and added. These event lines go to standard output,
+as `acqd replay` takes them. With --dry-run nothing in the book is changed.
+
+Events are taken a thousand at a time, and the lines are written once all are in the file. A stop
+leaves whole thousands; the same command then does the rest.
+
+The status is 0 where all is well, 1 for a fault, 2 for wrong usage, 3 where memory ran out or the
+file failed. A fault is one line on standard error:
+  acqd: 1 Memory
+  acqd: 2 Store                    the book's file can't be opened, read or written
+  acqd: 20 BadRange                a range's values are bad: low above high, hold days not 1 to 31
+  acqd: 21 Overlap LOW HIGH        a range overlaps this one of the list
+  acqd: 23 BadLine RECORD          this record of the list is out of its form
+  acqd: 40 NotABook                the file holds no book
+  acqd: 41 OtherVersion VERSION    the file holds a book of this other version
+  acqd: 53 Read                    the list can't be read
+  acqd: 54 Write BYTES             a write failed after so many bytes of the lines
+
+Example:
+  acqd ranges --db book.db --set ranges.csv";
 
 pub(crate) const ABOUT_PENDING: &str =
     "Writes answers to the requests that wait for their issuer's";

@@ -1,7 +1,7 @@
 //! A listing of the book in a file.
 
 ghost use Rattle.std.specs.Prelude.{IfErr};
-ghost use Rattle.acq_program.specs.BookFaults.{IsOfList};
+ghost use Rattle.acq_program.specs.BookFaults.{IsOfText};
 
 use crate::list_options::ListOptions;
 use crate::machine::Machine;
@@ -18,7 +18,7 @@ pub(crate) fn write_list<B: Book + Drop, M: Machine<B>, K: Sink>(
     asked: &ListOptions,
     output: &mut K,
 ) -> Result<(), Fault>
-    ensures { IfErr result IsOfList }
+    ensures { IfErr result IsOfText }
 {
     let mut book = machine.open_book(asked.path.as_str())?;
     let written = write_listing(alloc, &mut book, asked.listing, output);

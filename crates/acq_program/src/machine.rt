@@ -1,5 +1,6 @@
 //! What a command finds on its machine.
 
+use crate::page_sums::PageSums;
 use acq_ask::Watch;
 use acq_book::Book;
 use acq_core::{Event, Limit};
@@ -8,6 +9,7 @@ use acq_front::Issuer;
 use acq_link::{Sink, Source};
 use acq_serving::Connections;
 use acq_stand_in::StandIn;
+use card_no::RangeList;
 use day_totals::Day;
 use std::alloc::Global;
 use std::net::SocketAddrV4;
@@ -19,7 +21,7 @@ pub trait Machine<B: Book + Drop>: Sized + Watch {
     ghost use Rattle.acq_core.specs.Pasts.{HasPast};
     ghost use Rattle.acq_faults.specs.declared.fault.Fault.TheVariants.{Memory, Read, Silent};
     ghost use Rattle.acq_faults.specs.Faults.{IsOfAnswers, IsOfListening};
-    ghost use Rattle.acq_program.specs.BookFaults.{IsClosing, IsOfEvents, IsOpening};
+    ghost use Rattle.acq_program.specs.BookFaults.{IsClosing, IsOfEvents, IsOfRanges, IsOpening};
 
     /// The connections that come in at a port.
     type Connections: Connections + Drop;
@@ -50,7 +52,13 @@ pub trait Machine<B: Book + Drop>: Sized + Watch {
 
     /// Makes a new book in the file at a path, where there is none yet. The file alone is the book
     /// then, and a stop leaves there what was before or the whole book.
-    fn make_book(self, path: &str, limit: Limit, first_day: Day) -> Result<(), Fault>
+    fn make_book(
+        self,
+        path: &str,
+        limit: Limit,
+        first_day: Day,
+        sums: PageSums,
+    ) -> Result<(), Fault>
         ensures { IfErr result IsOpening };
 
     /// Migrates the book in the file at a path, where it is of the version before.
@@ -70,6 +78,10 @@ pub trait Machine<B: Book + Drop>: Sized + Watch {
     /// Reads the file of event lines at a path.
     fn read_events(&self, alloc: Global, path: &str) -> Result<Vec<Event>, Fault>
         ensures { IfErr result IsOfEvents };
+
+    /// Reads the list of ranges in the file at a path.
+    fn read_ranges(&self, alloc: Global, path: &str) -> Result<RangeList, Fault>
+        ensures { IfErr result IsOfRanges };
 
     /// Listens at an address and a port. A connection that takes longer than this patience lasts is
     /// closed as a failed read, or a failed write.

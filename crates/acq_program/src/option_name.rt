@@ -14,7 +14,7 @@ pub enum OptionName {
     Day,
     /// How many events are taken at once.
     Group,
-    /// The merchant whose open holds are asked for.
+    /// The merchant that is asked about, or one of several.
     Merchant,
     /// The moment at which something is.
     At,
@@ -62,6 +62,18 @@ pub enum OptionName {
     Path,
     /// What is listed.
     What,
+    /// The reference of a request that is looked for, where nothing else is.
+    Reference,
+    /// The terminal of such a request.
+    Terminal,
+    /// Its trace number.
+    Trace,
+    /// The last digits of its card number.
+    CardEnds,
+    /// The last day of a statement.
+    To,
+    /// The file of a list of ranges.
+    Set,
     /// A day of which a report is asked for.
     Report(ReportKind),
 }
@@ -102,6 +114,12 @@ impl fmt::Display for OptionName {
             OptionName::Whole => "--whole",
             OptionName::Path => "PATH",
             OptionName::What => "WHAT",
+            OptionName::Reference => "--reference",
+            OptionName::Terminal => "--terminal",
+            OptionName::Trace => "--trace",
+            OptionName::CardEnds => "--card-ends",
+            OptionName::To => "--to",
+            OptionName::Set => "--set",
             OptionName::Report(ReportKind::Clearing) => "--clearing",
             OptionName::Report(ReportKind::Settlement) => "--report",
         })

@@ -3,25 +3,32 @@
 ghost use Rattle.std.specs.Prelude.{◌≡◌, codes, IfErr, IfOk, option_map, string_bytes};
 ghost use Rattle.clap.specs.Words.{first_value, found_of};
 ghost use Rattle.acq_program.specs.Arguments.{IsNoMemory, PathIs, Reads};
-ghost use Rattle.acq_program.specs.Options.{AddressIs, AnswerWithinIs, CountIs, DayIfThere, DayIs};
-ghost use Rattle.acq_program.specs.Options.{FileIs, FrameWithinIs, form_of_flag, found_texts};
+ghost use Rattle.acq_program.specs.Options.{AddressIs, AnswerWithinIs, CardEndsIfThere, CountIs};
+ghost use Rattle.acq_program.specs.Options.{DayIfThere, DayIs, FileIs, FrameWithinIs};
 ghost use Rattle.acq_program.specs.Options.{FromOneAddressIs, GatewayWithinIs, GroupIs, IdleIs};
-ghost use Rattle.acq_program.specs.Options.{LimitIs, ListingIs, LogBytesIs, is_set, made_by};
-ghost use Rattle.acq_program.specs.Options.{MadeFormIs, MerchantIs, MomentIfThere, MomentIs};
-ghost use Rattle.acq_program.specs.Options.{PortIs, RepeatIfThere, ReplyWithinIs, said_by};
-ghost use Rattle.acq_program.specs.Options.{ShownFormIs, StopWithinIs, TogetherIs, WithinIs};
+ghost use Rattle.acq_program.specs.Options.{LastDayIfThere, LimitIs, ListFileIs, ListingIs};
+ghost use Rattle.acq_program.specs.Options.{LogBytesIs, MadeFormIs, MerchantIs, MomentIfThere};
+ghost use Rattle.acq_program.specs.Options.{MomentIs, PortIs, ReferenceIfThere, RepeatIfThere};
+ghost use Rattle.acq_program.specs.Options.{ReplyWithinIs, ShownFormIs, StopWithinIs};
+ghost use Rattle.acq_program.specs.Options.{TerminalIfThere, TogetherIs, TraceIfThere, WithinIs};
+ghost use Rattle.acq_program.specs.Options.{form_of_flag, found_texts, is_set, made_by};
+ghost use Rattle.acq_program.specs.Options.{page_sums_by, said_by, statement_form_by};
 
 use crate::option_name::OptionName;
 use crate::options::{
-    bytes_of, count_of, group_of, limit_of, port_of, repeat_of, seconds_of, together_of,
+    bytes_of, card_ends_of, count_of, group_of, limit_of, port_of, reference_of, repeat_of,
+    seconds_of, terminal_of, together_of,
 };
+use crate::page_sums::PageSums;
 use crate::usage_fault::UsageFault;
 use acq_commands::{GroupSize, InputForm, SaidForm, ShownForm, first_day_of_all, greatest_limit};
-use acq_core::{Limit, MerchantId, Moment};
+use acq_core::{Limit, MerchantId, Moment, Reference, TerminalId};
 use acq_directory::Listing;
 use acq_json::CardForm;
 use acq_make::MadeForm;
+use acq_message::Trace;
 use acq_out::{merchant_of, moment_of};
+use acq_statement::StatementForm;
 use clap::ArgMatches;
 use day_totals::Day;
 use std::alloc::Global;
@@ -147,6 +154,16 @@ pub(crate) fn log_option(alloc: Global, options: &ArgMatches) -> Result<Option<S
     }
 }
 
+/// The path of the file of a list of ranges.
+pub(crate) fn list_file_option(alloc: Global, options: &ArgMatches) -> Result<String, UsageFault>
+    ensures { Reads (ListFileIs (found_texts (found_of options.now))) result }
+{
+    match options.get_str("set") {
+        Some(path) => Ok(String::from_str(alloc, path)?),
+        None => Err(UsageFault::BadValue(OptionName::Set)),
+    }
+}
+
 /// The path of a socket's file.
 pub(crate) fn path_value(alloc: Global, options: &ArgMatches) -> Result<String, UsageFault>
     ensures { Reads (PathIs (found_texts (found_of options.now))) result }
@@ -208,6 +225,71 @@ pub(crate) fn merchant_option(options: &ArgMatches) -> Result<MerchantId, UsageF
         .get_str("merchant")
         .and_then(|text| merchant_of(text.as_bytes()))
         .ok_or(UsageFault::BadValue(OptionName::Merchant))
+}
+
+/// The last day of a statement, where the option is there.
+pub(crate) fn last_day_if_there(options: &ArgMatches) -> Result<Option<Day>, UsageFault>
+    ensures { Reads (LastDayIfThere (found_texts (found_of options.now))) result }
+{
+    let Some(text) = options.get_str("to") else {
+        return Ok(None);
+    };
+    match Day::read(text) {
+        Some(day) => Ok(Some(day)),
+        None => Err(UsageFault::BadValue(OptionName::To)),
+    }
+}
+
+/// The reference of the request that is looked for, where the option is there.
+pub(crate) fn reference_if_there(options: &ArgMatches) -> Result<Option<Reference>, UsageFault>
+    ensures { Reads (ReferenceIfThere (found_texts (found_of options.now))) result }
+{
+    let Some(text) = options.get_str("reference") else {
+        return Ok(None);
+    };
+    match reference_of(text) {
+        Some(reference) => Ok(Some(reference)),
+        None => Err(UsageFault::BadValue(OptionName::Reference)),
+    }
+}
+
+/// Its terminal, where the option is there.
+pub(crate) fn terminal_if_there(options: &ArgMatches) -> Result<Option<TerminalId>, UsageFault>
+    ensures { Reads (TerminalIfThere (found_texts (found_of options.now))) result }
+{
+    let Some(text) = options.get_str("terminal") else {
+        return Ok(None);
+    };
+    match terminal_of(text.as_bytes()) {
+        Some(terminal) => Ok(Some(terminal)),
+        None => Err(UsageFault::BadValue(OptionName::Terminal)),
+    }
+}
+
+/// Its trace number, where the option is there.
+pub(crate) fn trace_if_there(options: &ArgMatches) -> Result<Option<Trace>, UsageFault>
+    ensures { Reads (TraceIfThere (found_texts (found_of options.now))) result }
+{
+    let Some(text) = options.get_str("trace") else {
+        return Ok(None);
+    };
+    match Trace::read(text.as_bytes()) {
+        Some(trace) => Ok(Some(trace)),
+        None => Err(UsageFault::BadValue(OptionName::Trace)),
+    }
+}
+
+/// The last digits of its card number, where the option is there.
+pub(crate) fn card_ends_if_there(options: &ArgMatches) -> Result<Option<[u8; 4]>, UsageFault>
+    ensures { Reads (CardEndsIfThere (found_texts (found_of options.now))) result }
+{
+    let Some(text) = options.get_str("card-ends") else {
+        return Ok(None);
+    };
+    match card_ends_of(text.as_bytes()) {
+        Some(digits) => Ok(Some(digits)),
+        None => Err(UsageFault::BadValue(OptionName::CardEnds)),
+    }
 }
 
 /// What is to be listed.
@@ -436,6 +518,28 @@ pub(crate) fn shown_form_option(options: &ArgMatches) -> Result<ShownForm, Usage
         (true, false) => Ok(ShownForm::Json(CardForm::Masked)),
         (false, true) => Err(UsageFault::BadValue(OptionName::Whole)),
         (false, false) => Ok(ShownForm::Text),
+    }
+}
+
+/// Whether the pages of a new book's file are to have sums.
+pub(crate) fn page_sums_of(options: &ArgMatches) -> PageSums
+    ensures { result ≡ page_sums_by (first_value (found_of options.now) (codes "sums")) }
+{
+    if is_set(options, "sums") {
+        PageSums::With
+    } else {
+        PageSums::Without
+    }
+}
+
+/// The form of a statement.
+pub(crate) fn statement_form_of(options: &ArgMatches) -> StatementForm
+    ensures { result ≡ statement_form_by (first_value (found_of options.now) (codes "csv")) }
+{
+    if is_set(options, "csv") {
+        StatementForm::Csv
+    } else {
+        StatementForm::Text
     }
 }
 

@@ -1,15 +1,15 @@
-//! The values of a limit, a port, and numbers of events, of connections, of seconds, of bytes and
-//! of times.
+//! The values of a limit, a port, a reference, a terminal, the end of a card number, and numbers of
+//! events, of connections, of seconds, of bytes and of times.
 
 ghost use Rattle.std.specs.Prelude.{◌≡◌, ◌≤◌, IfSome};
-ghost use Rattle.acq_program.specs.Options.{bytes_of_text, count_of_text, group_of_text};
-ghost use Rattle.acq_program.specs.Options.{limit_of_text};
-ghost use Rattle.acq_program.specs.Options.{number_of_text, port_of_text, repeat_of_text};
-ghost use Rattle.acq_program.specs.Options.{seconds_of_text};
-ghost use Rattle.acq_program.specs.Options.{together_of_text};
+ghost use Rattle.acq_out.specs.Fields.{terminal_of_text};
+ghost use Rattle.acq_program.specs.Options.{bytes_of_text, card_ends_of_text, count_of_text};
+ghost use Rattle.acq_program.specs.Options.{group_of_text, limit_of_text, number_of_text};
+ghost use Rattle.acq_program.specs.Options.{port_of_text, reference_of_text, repeat_of_text};
+ghost use Rattle.acq_program.specs.Options.{seconds_of_text, together_of_text};
 
 use acq_commands::GroupSize;
-use acq_core::Limit;
+use acq_core::{Limit, Reference, TerminalId};
 use acq_message::digits_value;
 use iso_codec::all_digits;
 
@@ -51,6 +51,15 @@ const GREATEST_REPEAT: u64 = 1_000_000;
 
 /// The most connections that are served at once.
 const GREATEST_TOGETHER: u64 = 1_024;
+
+/// The most digits of a reference.
+const MOST_REFERENCE_DIGITS: usize = 12;
+
+/// The greatest reference.
+const GREATEST_REFERENCE: u64 = 999_999_999_999;
+
+/// The bytes of a terminal's name.
+const TERMINAL_LEN: usize = 8;
 
 /// The limit that a text spells: one to six digits, 1 to 999,999 (own profile).
 pub(crate) fn limit_of(text: &str) -> Option<Limit>
@@ -113,6 +122,35 @@ pub(crate) fn together_of(text: &str) -> Option<usize>
 {
     let number = number_of(text, MOST_TOGETHER_DIGITS, 1, GREATEST_TOGETHER)?;
     Some(number as usize)
+}
+
+/// The reference that a text spells: one to twelve digits (own profile).
+pub(crate) fn reference_of(text: &str) -> Option<Reference>
+    ensures { result ≡ reference_of_text text.now }
+{
+    Reference::from_number(number_of(text, MOST_REFERENCE_DIGITS, 0, GREATEST_REFERENCE)?)
+}
+
+/// A terminal's name, filled on the right with spaces.
+pub(crate) fn terminal_of(text: &[u8]) -> Option<TerminalId>
+    ensures { result ≡ terminal_of_text text.now }
+{
+    if text.is_empty() || text.len() > TERMINAL_LEN {
+        return None;
+    }
+    let mut name = [b' '; TERMINAL_LEN];
+    name[..text.len()].copy_from_slice(text);
+    TerminalId::read(&name)
+}
+
+/// The last four digits of a card number.
+pub(crate) fn card_ends_of(text: &[u8]) -> Option<[u8; 4]>
+    ensures { result ≡ card_ends_of_text text.now }
+{
+    match <[u8; 4]>::try_from(text) {
+        Ok(digits) if all_digits(&digits) => Some(digits),
+        _ => None,
+    }
 }
 
 /// The number that a text spells in so many digits at most, from the least to the greatest.

@@ -53,7 +53,7 @@ const BOOK: Parameter<'static> = Parameter {
 };
 
 /// What `init` takes.
-const INIT: [Parameter<'static>; 3] = [
+const INIT: [Parameter<'static>; 4] = [
     Parameter {
         name: "db",
         kind: Required("FILE"),
@@ -68,6 +68,11 @@ const INIT: [Parameter<'static>; 3] = [
         name: "day",
         kind: Required("YYYY-MM-DD"),
         help: "The first business day, 2000-01-01 to 2099-12-31",
+    },
+    Parameter {
+        name: "sums",
+        kind: Flag,
+        help: "Each page of the file has a sum, by which a byte that was changed is told",
     },
 ];
 
@@ -222,13 +227,84 @@ const REPLAY: [Parameter<'static>; 6] = [
     },
 ];
 
-/// What `clearing` and `report` take.
-const ON_A_DAY: [Parameter<'static>; 2] = [
+/// The business day of a text.
+const DAY: Parameter<'static> = Parameter {
+    name: "day",
+    kind: Required("YYYY-MM-DD"),
+    help: "The business day",
+};
+
+/// What `clearing` takes.
+const CLEARING: [Parameter<'static>; 2] = [BOOK, DAY];
+
+/// What `report` takes.
+const REPORT: [Parameter<'static>; 3] = [
     BOOK,
+    DAY,
+    Parameter {
+        name: "csv",
+        kind: Flag,
+        help: "The text is CSV, with currencies and their sums",
+    },
+];
+
+/// What `statement` takes.
+const STATEMENT: [Parameter<'static>; 5] = [
+    BOOK,
+    Parameter {
+        name: "merchant",
+        kind: Repeated("MERCHANT"),
+        help: "A merchant, 1 to 15 bytes; may be repeated [default: all]",
+    },
     Parameter {
         name: "day",
         kind: Required("YYYY-MM-DD"),
-        help: "The business day",
+        help: "The business day, or the first one",
+    },
+    Parameter {
+        name: "to",
+        kind: Optional("YYYY-MM-DD"),
+        help: "The last business day [default: the first]",
+    },
+    Parameter {
+        name: "csv",
+        kind: Flag,
+        help: "The text is CSV",
+    },
+];
+
+/// What `find` takes.
+const FIND: [Parameter<'static>; 7] = [
+    BOOK,
+    Parameter {
+        name: "merchant",
+        kind: Required("MERCHANT"),
+        help: "The merchant, 1 to 15 bytes",
+    },
+    Parameter {
+        name: "reference",
+        kind: Optional("REFERENCE"),
+        help: "The request with this reference, 1 to 12 digits",
+    },
+    Parameter {
+        name: "terminal",
+        kind: Optional("TERMINAL"),
+        help: "With --trace: those of this terminal, 1 to 8 bytes",
+    },
+    Parameter {
+        name: "trace",
+        kind: Optional("TRACE"),
+        help: "With --terminal: those with this trace number, six digits",
+    },
+    Parameter {
+        name: "card-ends",
+        kind: Optional("DIGITS"),
+        help: "With --day: those whose card number ends in these four digits",
+    },
+    Parameter {
+        name: "day",
+        kind: Optional("YYYY-MM-DD"),
+        help: "With --card-ends: those of this business day",
     },
 ];
 
@@ -255,6 +331,21 @@ const LIST: [Parameter<'static>; 2] = [
         help: "What is listed: merchants, terminals or ranges",
     },
     BOOK,
+];
+
+/// What `ranges` takes.
+const RANGES: [Parameter<'static>; 3] = [
+    BOOK,
+    Parameter {
+        name: "set",
+        kind: Required("LIST"),
+        help: "The file of the list that becomes the book's ranges",
+    },
+    Parameter {
+        name: "dry-run",
+        kind: Flag,
+        help: "Only the event lines are written that would be taken",
+    },
 ];
 
 /// What `pending` takes.
@@ -383,7 +474,7 @@ const EXPLAIN: [Parameter<'static>; 6] = [
 const STATUS: [Parameter<'static>; 1] = [BOOK];
 
 /// The commands, in the order in which the help has them.
-const COMMANDS: [CommandText<'static>; 16] = [
+const COMMANDS: [CommandText<'static>; 19] = [
     CommandText {
         name: "init",
         about: help::ABOUT_INIT,
@@ -417,14 +508,26 @@ const COMMANDS: [CommandText<'static>; 16] = [
     CommandText {
         name: "clearing",
         about: help::ABOUT_CLEARING,
-        more: help::MORE_OF_REPORTS,
-        parameters: &ON_A_DAY,
+        more: help::MORE_OF_CLEARING,
+        parameters: &CLEARING,
     },
     CommandText {
         name: "report",
         about: help::ABOUT_REPORT,
-        more: help::MORE_OF_REPORTS,
-        parameters: &ON_A_DAY,
+        more: help::MORE_OF_REPORT,
+        parameters: &REPORT,
+    },
+    CommandText {
+        name: "statement",
+        about: help::ABOUT_STATEMENT,
+        more: help::MORE_OF_STATEMENT,
+        parameters: &STATEMENT,
+    },
+    CommandText {
+        name: "find",
+        about: help::ABOUT_FIND,
+        more: help::MORE_OF_FIND,
+        parameters: &FIND,
     },
     CommandText {
         name: "holds",
@@ -437,6 +540,12 @@ const COMMANDS: [CommandText<'static>; 16] = [
         about: help::ABOUT_LIST,
         more: help::MORE_OF_LIST,
         parameters: &LIST,
+    },
+    CommandText {
+        name: "ranges",
+        about: help::ABOUT_RANGES,
+        more: help::MORE_OF_RANGES,
+        parameters: &RANGES,
     },
     CommandText {
         name: "pending",

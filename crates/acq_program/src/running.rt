@@ -16,9 +16,13 @@ ghost use Rattle.acq_program.specs.Runs.{plain_end, status_in};
 
 use crate::asking::ask_host;
 use crate::explaining::explain;
+use crate::finding::write_found;
 use crate::listing::write_list;
 use crate::machine::Machine;
+use crate::page_sums::PageSums;
 use crate::pending::answer_pending;
+use crate::setting_ranges::set_ranges;
+use crate::stating::{report_csv, state};
 use crate::status::tell_status;
 use crate::telling::tell_host;
 use crate::{Action, UsageFault, action_of};
@@ -119,7 +123,7 @@ fn run<B: Lenient + Drop, M: Machine<B> + Drop, C: Clock, S: Source, K: Sink, F:
     ensures status { IfOk result (λ status. status ≤ 1) }
 {
     match action {
-        Action::Init(new) => plainly(init(machine, &new)),
+        Action::Init(new, sums) => plainly(init(machine, &new, sums)),
         Action::Migrate(path) => plainly(migrate(machine, &path)),
         Action::Once(asked) => { plainly(once(alloc, keys, machine, &asked, clock, input, output)) }
         Action::Listen(asked) => plainly(listen(alloc, keys, machine, &asked, clock, faults)),
@@ -127,8 +131,14 @@ fn run<B: Lenient + Drop, M: Machine<B> + Drop, C: Clock, S: Source, K: Sink, F:
             alloc, keys, machine, &options, input, output, progress,
         )),
         Action::Report(options) => plainly(report(alloc, machine, &options, output)),
+        Action::ReportCsv(asked) => plainly(report_csv(alloc, machine, &asked, output)),
+        Action::Statement(asked) => plainly(state(alloc, machine, &asked, output)),
+        Action::Find(asked) => plainly(write_found(alloc, machine, &asked, output)),
         Action::Holds(options) => plainly(holds(alloc, machine, &options, output)),
         Action::List(asked) => plainly(write_list(alloc, machine, &asked, output)),
+        Action::Ranges(asked) => plainly(set_ranges(
+            alloc, keys, machine, &asked, output, progress,
+        )),
         Action::Pending(asked) => plainly(answer_pending(alloc, machine, &asked, clock, output)),
         Action::Show(how, form) => plainly(show(alloc, how, form, input, output)),
         Action::Make(said, form) => plainly(make(alloc, said, &form, input, output)),
@@ -153,10 +163,14 @@ fn plainly(ended: Result<(), Fault>) -> Result<u8, Fault>
 }
 
 /// Makes a new book.
-fn init<B: Book + Drop, M: Machine<B>>(machine: M, new: &NewBook) -> Result<(), Fault>
+fn init<B: Book + Drop, M: Machine<B>>(
+    machine: M,
+    new: &NewBook,
+    sums: PageSums,
+) -> Result<(), Fault>
     ensures { IfErr result IsOpening }
 {
-    machine.make_book(new.path.as_str(), new.limit, new.first_day)
+    machine.make_book(new.path.as_str(), new.limit, new.first_day, sums)
 }
 
 /// Migrates the book in a file, which is given back at once.

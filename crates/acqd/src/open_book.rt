@@ -22,6 +22,7 @@ ghost use Rattle.acqd.specs.Found.{IsFound};
 
 use crate::no_book::NoBook;
 use acq_core::Limit;
+use acq_program::PageSums;
 use acq_sql::{Refusal, SqlBook};
 use acq_sql_checking::OpeningFault;
 use acq_sql_opening::{an_open_finds_a_book_of_any_version, an_open_finds_the_book, put_in_order};
@@ -49,7 +50,7 @@ pub fn open_book<D: Start>(
         HasCleanDisk (file_state connection)) → (t : Tables) → FilesHold (image_at D.Start) t
         → IsFailure none.fault) }
 {
-    match connect(rt, path, start) {
+    match connect(rt, path, start, PageSums::Without) {
         Ok(connection) => opened(rt.alloc(), connection),
         Err(fault) => Err(NoBook {
             fault,
@@ -58,14 +59,15 @@ pub fn open_book<D: Start>(
     }
 }
 
-/// Makes a new book in the file at a path, which is empty, and its log. A database that has tables
-/// is left as it is.
+/// Makes a new book in the file at a path, which is empty, and its log; each page has a sum, if it
+/// is to have one. A database that has tables is left as it is.
 pub fn make_book<D: Start>(
     rt: &HostRuntime,
     path: &str,
     start: D,
     limit: Limit,
     first_day: Day,
+    sums: PageSums,
 ) -> Result<SqlBook<FileStore<FileFrom<D>>>, OpeningFault>
     ensures new { IfOk result (λ book. HasCleanDisk (file_state book.connection)
         → IsOpenAt (file_state book.connection)
@@ -74,7 +76,7 @@ pub fn make_book<D: Start>(
         → IsRoomy (file_state book.connection)) }
     ensures fresh { IfOk result IsFresh }
 {
-    let connection = connect(rt, path, start)?;
+    let connection = connect(rt, path, start, sums)?;
     match created(rt.alloc(), connection, limit, first_day) {
         Ok(book) => Ok(book),
         Err(fault) => Err(fault),
@@ -94,7 +96,7 @@ pub fn migrate_book<D: Start>(
         → IsOpenAt (file_state book.connection) (widened_tables t)) }
     ensures fresh { IfOk result IsFresh }
 {
-    match connect(rt, path, start) {
+    match connect(rt, path, start, PageSums::Without) {
         Ok(connection) => migrated(rt.alloc(), connection),
         Err(fault) => Err(fault),
     }
@@ -197,11 +199,13 @@ fn in_order<S: Alter>(
     }
 }
 
-/// Opens the files at a path.
+/// Opens the files at a path. Whether a file that is there has sums stands in its header; a wrong
+/// one is a failure of the store.
 fn connect<D: Start>(
     rt: &HostRuntime,
     path: &str,
     start: D,
+    sums_of_new: PageSums,
 ) -> Result<Connection<FileStore<FileFrom<D>>>, OpeningFault>
     ensures opened { IfOk result (λ connection. HasCleanDisk (file_state connection)
         → IsOpened connection) }
@@ -211,7 +215,7 @@ fn connect<D: Start>(
     ensures unlimited { IfOk result (λ connection. connection.step_limit ≡ None) }
     ensures failure { IfErr result IsFailure }
 {
-    match Connection::open_from(rt, path, false, start) {
+    match Connection::open_from(rt, path, sums_of_new == PageSums::With, start) {
         Ok(connection) => Ok(connection),
         Err((error, _)) => Err(OpeningFault::from(error)),
     }

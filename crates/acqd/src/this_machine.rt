@@ -2,7 +2,7 @@
 
 ghost use Rattle.std.specs.Prelude.{◌≡◌, IfErr};
 ghost use Rattle.acq_faults.specs.Faults.{IsOfAnswers, IsOfListening};
-ghost use Rattle.acq_program.specs.BookFaults.{IsClosing, IsOfEvents, IsOpening};
+ghost use Rattle.acq_program.specs.BookFaults.{IsClosing, IsOfEvents, IsOfRanges, IsOpening};
 ghost use Rattle.acqd.specs.BookFiles.{of_opening};
 
 use crate::apart::names_a_file_twice;
@@ -21,11 +21,12 @@ use acq_faults::{Fault, ListenOptions, Patience};
 use acq_gateway::{GatewayDesk, GatewayIssuer};
 use acq_link::{ReadSource, WriteSink};
 use acq_out::read_events;
-use acq_program::Machine;
+use acq_program::{Machine, PageSums};
 use acq_sql::OnceBook;
 use acq_sql_checking::OpeningFault;
 use acq_stand_in::StandIn;
 use acq_tcp::{HostLog, Sockets, TcpConnections, TcpServer};
+use card_no::RangeList;
 use day_totals::Day;
 use mio::net::UnixListener;
 use sqlite::{Error, ErrorCode};
@@ -120,12 +121,18 @@ impl<'a, D: Start> Machine<OnceBook<FileStore<FileFrom<D>>>> for ThisMachine<'a,
         }
     }
 
-    fn make_book(self, path: &str, limit: Limit, first_day: Day) -> Result<(), Fault> {
+    fn make_book(
+        self,
+        path: &str,
+        limit: Limit,
+        first_day: Day,
+        sums: PageSums,
+    ) -> Result<(), Fault> {
         let file = match NewBookFile::make(self.rt, path) {
             Ok(file) => file,
             Err(cause) => return Err(fault_of_opening(cause)),
         };
-        match made_in(self.rt, &file, self.start, limit, first_day) {
+        match made_in(self.rt, &file, self.start, limit, first_day, sums) {
             Ok(()) => Ok(()),
             Err(cause) => {
                 // What is wrong is said already, and the next one removes what can't be now.
@@ -168,6 +175,14 @@ impl<'a, D: Start> Machine<OnceBook<FileStore<FileFrom<D>>>> for ThisMachine<'a,
             self.signs.note(Lack::Events);
         }
         events
+    }
+
+    fn read_ranges(&self, alloc: Global, path: &str) -> Result<RangeList, Fault> {
+        let ranges = ranges_in(self.rt, alloc, path);
+        if ranges.is_err() {
+            self.signs.note(Lack::Ranges);
+        }
+        ranges
     }
 
     fn listen_at(
@@ -289,6 +304,19 @@ fn events_in(rt: &HostRuntime, alloc: Global, path: &str) -> Result<Vec<Event>, 
     Ok(read_events(alloc, &mut ReadSource::new(file))?)
 }
 
+/// The list of ranges in the file at a path.
+fn ranges_in(rt: &HostRuntime, alloc: Global, path: &str) -> Result<RangeList, Fault>
+    ensures { IfErr result IsOfRanges }
+{
+    let Ok(file) = File::open(rt, path) else {
+        return Err(Fault::Read);
+    };
+    match RangeList::read_csv(alloc, file) {
+        Ok(ranges) => Ok(ranges),
+        Err(fault) => Err(Fault::from(fault)),
+    }
+}
+
 /// The log that is asked for, if one is.
 fn log_asked<'a>(
     rt: &'a HostRuntime,
@@ -367,8 +395,9 @@ fn made_in<D: Start>(
     start: D,
     limit: Limit,
     first_day: Day,
+    sums: PageSums,
 ) -> Result<(), OpeningFault> {
-    let book = make_book(rt, file.beside(), start, limit, first_day)?;
+    let book = make_book(rt, file.beside(), start, limit, first_day, sums)?;
     book.close()?;
     file.put(rt)
 }

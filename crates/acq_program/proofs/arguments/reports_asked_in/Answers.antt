@@ -1,9 +1,8 @@
 -- command by command: what the options were read as is what the arguments ask for
 use Rattle.std.proofs.Common.{◌∙◌, Some, codes, ap, sym, refl, inl, inr}
 use Rattle.clap.specs.Words.{found_of, rows_of}
-use Rattle.acq_program.specs.Arguments.{AsksHolds, AsksList, AsksPending, AsksReport, AsksShow}
+use Rattle.acq_program.specs.Arguments.{AsksClearing, AsksFind, AsksReport, AsksStatement}
 use Rattle.acq_program.specs.Program.{program}
-use Rattle.acq_faults.specs.declared.report_kind.ReportKind.TheVariants as kinds
 use Rattle.acq_program.proofs.AskedCommands.{named, reads_command}
 use Rattle.acq_program.proofs.arguments.reports_asked_in.Goals as goal
 
@@ -11,68 +10,46 @@ pub returns-in-Some-clearing-default : goal.returns-in-Some-clearing-default
 returns-in-Some-clearing-default c = λ words well matches.
     let it = c.in-Some-clearing-default in
     let found = found_of it.options.now in
-    reads_command (codes "clearing") (AsksReport kinds.Clearing)
-    (λ command asked h. inr (inr (inr (inl h)))) words found
-    well
+    reads_command (codes "clearing") AsksClearing
+    (λ command asked h.
+    inr (inr (inr (inl h))))
+    words found well
     (named c.args.matches.now program words (codes "clearing") (rows_of found) refl
-    matches (ap Some (sym it.is-clearing) ∙ it.ensures.name)
-    it.ensures.rows)
-    c.report_of.result c.report_of.ensures
+    matches (ap Some (sym it.is-clearing) ∙ it.ensures.name) it.ensures.rows)
+    c.clearing_of.result c.clearing_of.ensures
 
 pub returns-in-Some-report-default : goal.returns-in-Some-report-default
 returns-in-Some-report-default c = λ words well matches.
     let it = c.in-Some-report-default in
     let found = found_of it.options.now in
-    reads_command (codes "report") (AsksReport kinds.Settlement)
-    (λ command asked h. inr (inr (inr (inr (inl h))))) words found
-    well
+    reads_command (codes "report") AsksReport
+    (λ command asked h.
+    inr (inr (inr (inr (inl h)))))
+    words found well
     (named c.args.matches.now program words (codes "report") (rows_of found) refl
     matches (ap Some (sym it.is-report) ∙ it.ensures.name) it.ensures.rows)
-    c.report_of-in-Some-report-default.result c.report_of-in-Some-report-default.ensures
+    c.report_of.result c.report_of.ensures
 
-pub returns-in-Some-holds-default : goal.returns-in-Some-holds-default
-returns-in-Some-holds-default c = λ words well matches.
-    let it = c.in-Some-holds-default in
+pub returns-in-Some-statement-default : goal.returns-in-Some-statement-default
+returns-in-Some-statement-default c = λ words well matches.
+    let it = c.in-Some-statement-default in
     let found = found_of it.options.now in
-    reads_command (codes "holds") AsksHolds (λ command asked h. inr (inr (inr (inr (inr (inl h))))))
-    words found
-    well
-    (named c.args.matches.now program words (codes "holds") (rows_of found) refl
-    matches (ap Some (sym it.is-holds) ∙ it.ensures.name) it.ensures.rows)
-    c.holds_of.result c.holds_of.ensures
-
-pub returns-in-Some-list-default : goal.returns-in-Some-list-default
-returns-in-Some-list-default c = λ words well matches.
-    let it = c.in-Some-list-default in
-    let found = found_of it.options.now in
-    reads_command (codes "list") AsksList
+    reads_command (codes "statement") AsksStatement
     (λ command asked h.
-    inr (inr (inr (inr (inr (inr (inr (inr (inr (inr (inr (inr (inr (inr (inr h)))))))))))))))
+    inr (inr (inr (inr (inr (inr (inr (inr (inr (inr (inr (inr (inr (inr (inr (inr (inl h)))))))))))))))))
     words found well
-    (named c.args.matches.now program words (codes "list") (rows_of found) refl
-    matches (ap Some (sym it.is-list) ∙ it.ensures.name)
-    it.ensures.rows)
-    c.list_of.result c.list_of.ensures
+    (named c.args.matches.now program words (codes "statement") (rows_of found) refl
+    matches (ap Some (sym it.is-statement) ∙ it.ensures.name) it.ensures.rows)
+    c.statement_of.result c.statement_of.ensures
 
-pub returns-in-Some-show-default : goal.returns-in-Some-show-default
-returns-in-Some-show-default c = λ words well matches.
-    let it = c.in-Some-show-default in
+pub returns-in-Some-find-default : goal.returns-in-Some-find-default
+returns-in-Some-find-default c = λ words well matches.
+    let it = c.in-Some-find-default in
     let found = found_of it.options.now in
-    reads_command (codes "show") AsksShow
-    (λ command asked h. inr (inr (inr (inr (inr (inr (inl h))))))) words found
-    well
-    (named c.args.matches.now program words (codes "show") (rows_of found) refl
-    matches (ap Some (sym it.is-show) ∙ it.ensures.name) it.ensures.rows)
-    c.show_of.result c.show_of.ensures
-
-pub returns-in-Some-pending-default : goal.returns-in-Some-pending-default
-returns-in-Some-pending-default c = λ words well matches.
-    let it = c.in-Some-pending-default in
-    let found = found_of it.options.now in
-    reads_command (codes "pending") AsksPending
-    (λ command asked h. inr (inr (inr (inr (inr (inr (inr (inr (inr (inl h)))))))))) words found
-    well
-    (named c.args.matches.now program words (codes "pending") (rows_of found) refl
-    matches (ap Some (sym it.is-pending) ∙ it.ensures.name)
-    it.ensures.rows)
-    c.pending_of.result c.pending_of.ensures
+    reads_command (codes "find") AsksFind
+    (λ command asked h.
+    inr (inr (inr (inr (inr (inr (inr (inr (inr (inr (inr (inr (inr (inr (inr (inr (inr (inl h))))))))))))))))))
+    words found well
+    (named c.args.matches.now program words (codes "find") (rows_of found) refl
+    matches (ap Some (sym it.is-find) ∙ it.ensures.name) it.ensures.rows)
+    c.find_of.result c.find_of.ensures
