@@ -1,9 +1,9 @@
 #!/usr/bin/env python3
-"""owed.py PROGRAM [EVENTS]: days of some merchants, drawn from seeds, of which four texts have to
-say the same: the clearing file, the settlement report, that report as CSV, and the statement as CSV.
+"""owed.py PROGRAM [MESSAGES]: days of some merchants, drawn from seeds, of which four texts have to
+say the same: the clearing file, the settlement report, that report as CSV, and a statement as CSV.
 
-Merchants have two currencies, terminals of their own, sales, returns, holds and their completions,
-and reversals, whole and in part, some of them on the next day. A day has 300 messages, or so many."""
+Merchants have two currencies and terminals of their own: sales, returns, holds, their completions,
+and reversals, whole and in part, some on the next day. A day has 300 messages, or so many."""
 
 import csv
 import io

@@ -2,7 +2,7 @@
 """ranges.py PROGRAM [RANGES]: lists that become the ranges of a book, one after the other.
 
 Behind each the book has just the ranges of the list; the lines that are written make the same of a
-book of another host; a dry run writes them and changes nothing; and a run that is killed is finished
+book of another host; a dry run writes them and changes nothing; and a run that is killed is ended
 by the next. The lists have 3,000 ranges, or so many."""
 
 import os

@@ -101,8 +101,9 @@ def other_programs(_):
             if os.path.exists(it):
                 os.remove(it)
         shutil.copy("sound.db", "book.db")
-        with closing(sqlite3.connect("book.db")) as book, closing(sqlite3.connect("copy.db")) as copy:
-            change(book, copy)
+        with closing(sqlite3.connect("book.db")) as book:
+            with closing(sqlite3.connect("copy.db")) as copy:
+                change(book, copy)
         if os.path.getsize("copy.db"):
             shutil.move("copy.db", "book.db")
         want = before if name == "a dump" else TOLD

@@ -13,9 +13,9 @@ refused with this fault, and `@refused 41 VERSION` one of another version; `@iss
 issuers' answers, and `@issuers RECORD` a record of it; `@list` a list of ranges, and `@list RECORD`
 a record of it; `@port` a port, and `@connection` a connection, which sends what `@frame` and
 `@bytes` behind it say; `@host` a host that takes control connections, `@host LINE` a line that it
-answers, and `@host bytes BYTES` bytes that no line ends. `@piece COUNT` says how many bytes a read gives, `@read COUNT` that the read after so many fails,
-and `@writes frame`, `@writes line` or `@writes text` that it runs again with each write failing,
-where the fault's line counts bytes so.
+answers, and `@host bytes BYTES` bytes that no line ends. `@piece COUNT` says how many bytes a read
+gives, `@read COUNT` that the read after so many fails, and `@writes frame`, `@writes line` or
+`@writes text` that it runs again with each write failing, where the fault's line counts bytes so.
 """
 
 import struct
