@@ -44,6 +44,8 @@ def asked_for(_):
         texts.append([acqd([it, *DAY])[:2] for it in ("clearing", "report", "statement")])
     wanted("the files of the day", texts[1], texts[0])
     wanted("the postings of the day", texts[1][0][1].count(b"\n"), SALES + 1)
+    last = texts[1][2][1].splitlines()[-1]
+    wanted("what the shop is owed", last, b"  the acquirer owes the merchants %d" % (1000 * SALES))
 
 
 def flips(_):

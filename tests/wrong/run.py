@@ -94,8 +94,11 @@ SCRIPTS = [
     ("migration", [("text replay", "the kiosk"), ("text clearing", "the clearing file")]),
     ("files one_file rows_changed", [("text replay", "the database alone")]),
     ("owed 20", [("text report", "what is owed"), ("text statement", "what it says is owed")]),
-    ("ranges lists 40", [("text list", "the book's ranges"), ("text ranges", "what a dry run")]),
-    ("sums asked_for", [("text statement", "the files of the day")]),
+    ("ranges lists 40", [
+        ("text list", "the book's ranges"),
+        ("text ranges", "the lines at another host"),
+    ]),
+    ("sums asked_for", [("text statement", "what the shop is owed")]),
     ("foreign version_one", [("text replay", "the day's first lines")]),
     ("file_stops modes_and_links", [("text replay", "a book behind a link: the day")]),
     ("operating a_moved_log a_flood", [("reply 1", "the reply to sale 1"), ("lost 2", "replies")]),
