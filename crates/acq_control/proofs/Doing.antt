@@ -34,6 +34,8 @@ module _ {S : Type 0} (book : Ghosts S) (a c : S) where
   does_kept (Some (question.Pending day moment)) done looks = looked done looks
   does_kept (Some (question.Explain e)) done looks = looked done looks
   does_kept (Some (question.List listing)) done looks = looked done looks
+  does_kept (Some (question.ReportCsv day)) done looks = looked done looks
+  does_kept (Some (question.Sums day)) done looks = looked done looks
   does_kept (Some (question.Status form serving)) done looks = looked done looks
   does_kept (Some (question.End day moment)) done does = ended does.0 done does.1
     where
@@ -60,6 +62,8 @@ module _ {S : Type 0} (book : Ghosts S) (a c : S) where
     done_tables (Some (question.Pending day moment)) looks = looked_tables looks
     done_tables (Some (question.Explain e)) looks = looked_tables looks
     done_tables (Some (question.List listing)) looks = looked_tables looks
+    done_tables (Some (question.ReportCsv day)) looks = looked_tables looks
+    done_tables (Some (question.Sums day)) looks = looked_tables looks
     done_tables (Some (question.Status form serving)) looks = looked_tables looks
     done_tables (Some (question.End day moment)) does =
         rw (sym (does.2 refl honest opened)) (ended does.0 does.1)
@@ -92,6 +96,8 @@ module _ {S : Type 0} (book : Ghosts S) (a c : S) where
         done_stop (Some (question.Pending day moment)) looks = looked_stop true looks
         done_stop (Some (question.Explain e)) looks = looked_stop true looks
         done_stop (Some (question.List listing)) looks = looked_stop true looks
+        done_stop (Some (question.ReportCsv day)) looks = looked_stop true looks
+        done_stop (Some (question.Sums day)) looks = looked_stop true looks
         done_stop (Some (question.Status form serving)) looks = looked_stop true looks
         done_stop (Some (question.End day moment)) does =
             rw (sym (does.2 refl honest opened)) (ended does.0 does.1)
@@ -147,6 +153,8 @@ module _ {S : Type 0} (book : Ghosts S) (a c : S) where
         some_done (Some (question.Pending day moment)) some = looked_some some.0 some.1
         some_done (Some (question.Explain e)) some = looked_some some.0 some.1
         some_done (Some (question.List listing)) some = looked_some some.0 some.1
+        some_done (Some (question.ReportCsv day)) some = looked_some some.0 some.1
+        some_done (Some (question.Sums day)) some = looked_some some.0 some.1
         some_done (Some (question.Status form serving)) some = looked_some some.0 some.1
         some_done (Some (question.End day moment)) some =
             ended some.1.0 some.0 some.1.1

@@ -11,6 +11,8 @@ use Rattle.acq_reports.specs.OpenHolds.{holds_text}
 use Rattle.acq_reports.specs.Refusals.{day_refusal, merchant_refusal}
 use Rattle.acq_reports.specs.declared.report_fault.ReportFault.{ReportFault}
 use Rattle.acq_directory.specs.Listings.{listing_text}
+use Rattle.acq_statement.specs.DaySums.{day_sums}
+use Rattle.acq_statement.specs.ReportCsv.{report_csv}
 use Rattle.acq_status.specs.Figures.{figures_at}
 use Rattle.acq_status.specs.Texts.{text_in}
 use Rattle.acq_stand_in.specs.Pending.{pending_text}
@@ -46,6 +48,9 @@ answer_of t number None = fault_line (BadLine number)
 answer_of t number (Some (question.Event event)) = line_of (step_output t (arrival_of event))
 answer_of t number (Some (question.Report asked)) =
     text_unless_refused (day_refusal t asked.day) (report_text t asked)
+answer_of t number (Some (question.ReportCsv day)) =
+    text_unless_refused (day_refusal t day) (report_csv t day)
+answer_of t number (Some (question.Sums day)) = text_answer (day_sums t day)
 answer_of t number (Some (question.Holds merchant moment)) =
     text_unless_refused (merchant_refusal t merchant) (holds_text t merchant moment)
 answer_of t number (Some (question.Pending day moment)) =

@@ -35,6 +35,7 @@ word_of line =
     if bytes_eq line (codes "stop") then word.Stop
     else if begins_with line (codes "clearing,") then word.Clearing
     else if begins_with line (codes "report,") then word.Report
+    else if begins_with line (codes "sums,") then word.Sums
     else if begins_with line (codes "holds,") then word.Holds
     else if begins_with line (codes "pending,") then word.Pending
     else if begins_with line (codes "explain,") then word.Explain
@@ -51,6 +52,7 @@ word_length word.Clearing = 9
 word_length word.Pending = 8
 word_length word.Explain = 8
 word_length word.Report = 7
+word_length word.Sums = 5
 word_length word.Holds = 6
 word_length word.List = 5
 word_length word.End = 4
@@ -120,6 +122,29 @@ AsksReport kind text (Some (question.Report asked)) =
 AsksReport kind text None = IsUtf8 text → IsNoDateText text
 AsksReport kind text (Some other) = ⊥
 
+-- so it is of a settlement report as CSV
+abbrev pub AsksReportCsv : List ℕ → Option Question → Type 0
+AsksReportCsv text (Some (question.ReportCsv day)) = text ≡ date_text_of day
+AsksReportCsv text None = IsUtf8 text → IsNoDateText text
+AsksReportCsv text (Some other) = ⊥
+
+-- a form behind a date is CSV, or none
+abbrev pub AsksReportIn : Bool → List ℕ → Option Question → Type 0
+AsksReportIn true date asked = AsksReportCsv date asked
+AsksReportIn false date asked = asked ≡ None
+
+-- a settlement report, in the form behind the first comma, if one stands there
+abbrev pub AsksSettlement : List ℕ → Option ℕ → Option Question → Type 0
+AsksSettlement text None asked = AsksReport report.Settlement text asked
+AsksSettlement text (Some comma) asked =
+    AsksReportIn (bytes_eq (drop (comma + 1) text) (codes "csv")) (take comma text) asked
+
+-- the sums of a day
+abbrev pub AsksSums : List ℕ → Option Question → Type 0
+AsksSums text (Some (question.Sums day)) = text ≡ date_text_of day
+AsksSums text None = IsUtf8 text → IsNoDateText text
+AsksSums text (Some other) = ⊥
+
 -- so it is of a day's answers, which are given at a moment
 abbrev pub AsksPending : ℕ → List ℕ → Option Question → Type 0
 AsksPending now text (Some (question.Pending day moment)) =
@@ -177,7 +202,9 @@ wish_of other = wish.Nothing
 abbrev pub AsksBy : QuestionWord → ℕ → List ℕ → Option Question → Type 0
 AsksBy word.Stop now line asked = asked ≡ Some question.Stop
 AsksBy word.Clearing now line asked = AsksReport report.Clearing (drop 9 line) asked
-AsksBy word.Report now line asked = AsksReport report.Settlement (drop 7 line) asked
+AsksBy word.Report now line asked =
+    AsksSettlement (drop 7 line) (position (λ byte. byte == 44) (drop 7 line)) asked
+AsksBy word.Sums now line asked = AsksSums (drop 5 line) asked
 AsksBy word.Holds now line asked = asked ≡ holds_of now (drop 6 line)
 AsksBy word.Pending now line asked = AsksPending now (drop 8 line) asked
 AsksBy word.Explain now line asked = AsksExplained now (drop 8 line) asked

@@ -17,6 +17,7 @@ ghost use Rattle.acq_clearing.specs.ClearingFile.{clearing_text};
 ghost use Rattle.acq_faults.specs.DayReport.{report_text};
 ghost use Rattle.acq_faults.specs.Faults.{fault_line, of_report};
 ghost use Rattle.acq_stand_in.specs.Pending.{pending_text};
+ghost use Rattle.acq_statement.specs.ReportCsv.{report_csv};
 ghost use Rattle.acq_control.specs.Answers.{answer_of, answer_to_end, heading_of, text_answer};
 ghost use Rattle.acq_control.specs.Answers.{text_unless_refused};
 ghost use Rattle.acq_control.specs.Doing.{Does, DoesSome, IsRefusal, IsSettled, TellsAs};
@@ -30,6 +31,7 @@ use crate::pending_text::PendingText;
 use crate::question::Question;
 use crate::said::Said;
 use crate::status_text::StatusText;
+use crate::sums_text::SumsText;
 use acq_book::{Book, BookFault};
 use acq_core::{Event, MerchantId, Moment};
 use acq_explain::Explained;
@@ -107,6 +109,8 @@ fn put_question<B: Book + Drop>(
 {
     match question {
         Question::Report(report) => return put_report(alloc, host, *report, answer),
+        Question::ReportCsv(day) => put_report_csv(alloc, host, *day, answer)?,
+        Question::Sums(day) => put_asked(alloc, host, &SumsText { day: *day }, answer)?,
         Question::Event(event) => put_event(alloc, host, event, answer)?,
         Question::Holds(merchant, moment) => put_holds(alloc, host, *merchant, *moment, answer)?,
         Question::Pending(day, moment) => put_pending(alloc, host, *day, *moment, answer)?,
@@ -235,6 +239,25 @@ fn put_settlement<B: Book + Drop>(
 {
     let mut text = MemorySink::new(alloc);
     let made = host.write_settlement(day, &mut text);
+    put_text(made, text.as_bytes(), answer)
+}
+
+/// Puts the settlement report of a day as CSV, or why it is refused.
+fn put_report_csv<B: Book + Drop>(
+    alloc: Global,
+    host: &mut Host<B>,
+    day: Day,
+    answer: &mut MemorySink,
+) -> Result<(), BookFault>
+    ensures answers { B.is_honest host.new → B.is_open host.old → OnOk result (sent_of answer.new
+        ≡ sent_of answer.old ++ text_unless_refused (day_refusal (B.tables host.old) day)
+        (report_csv (B.tables host.old) day)) }
+    ensures does { OnOk result (Looks B.Book host.old host.new true) }
+    ensures refused { OnErr result ((done : Bool) × Looks B.Book host.old host.new done) }
+    ensures store { TellsStore B.Book host.old host.new result }
+{
+    let mut text = MemorySink::new(alloc);
+    let made = host.write_report_csv(day, &mut text);
     put_text(made, text.as_bytes(), answer)
 }
 

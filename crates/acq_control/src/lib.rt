@@ -34,6 +34,7 @@ mod question_word;
 mod reading;
 mod said;
 mod status_text;
+mod sums_text;
 mod taken_line;
 mod telling;
 pub mod telling_laws;

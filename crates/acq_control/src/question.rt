@@ -13,6 +13,10 @@ pub enum Question {
     Event(Event),
     /// The clearing file or the settlement report of a day.
     Report(DayReport),
+    /// The settlement report of a day, as CSV.
+    ReportCsv(Day),
+    /// The sums of a day by currency.
+    Sums(Day),
     /// The open holds of a merchant at a moment.
     Holds(MerchantId, Moment),
     /// Answers without a verdict to the requests of a day that wait for their issuer, given at a

@@ -9,6 +9,7 @@ pub(crate) enum QuestionWord {
     Stop,
     Clearing,
     Report,
+    Sums,
     Holds,
     Pending,
     Explain,
@@ -32,6 +33,8 @@ impl QuestionWord {
             QuestionWord::Clearing
         } else if line.starts_with(b"report,") {
             QuestionWord::Report
+        } else if line.starts_with(b"sums,") {
+            QuestionWord::Sums
         } else if line.starts_with(b"holds,") {
             QuestionWord::Holds
         } else if line.starts_with(b"pending,") {
@@ -62,7 +65,7 @@ impl QuestionWord {
             QuestionWord::Pending | QuestionWord::Explain => 8,
             QuestionWord::Report => 7,
             QuestionWord::Holds => 6,
-            QuestionWord::List => 5,
+            QuestionWord::Sums | QuestionWord::List => 5,
             QuestionWord::End => 4,
             _ => 0,
         }

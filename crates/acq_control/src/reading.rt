@@ -3,7 +3,8 @@
 ghost use Rattle.std.specs.Prelude.{◌≡◌, ◌==◌, ℕ, IfOk, List, Option};
 ghost use Rattle.std.specs.List.{position};
 ghost use Rattle.acq_control.specs.Questions.{Asks, AsksEnd, AsksEvent, AsksExplained};
-ghost use Rattle.acq_control.specs.Questions.{AsksPending, AsksReport, frame_line};
+ghost use Rattle.acq_control.specs.Questions.{AsksPending, AsksReport, AsksReportCsv};
+ghost use Rattle.acq_control.specs.Questions.{AsksSettlement, AsksSums, frame_line};
 ghost use Rattle.acq_control.specs.Questions.{AsksShort, Shows, at_moment, holds_of, list_of, moment_at};
 ghost use Rattle.acq_control.specs.Questions.{says_now, without_return};
 ghost use Rattle.acq_control.specs.Held.{IsTaken};
@@ -26,6 +27,9 @@ use std::str;
 
 /// The word that stands for the moment.
 const NOW: &[u8] = b"now";
+
+/// The form of a settlement report that is told beside its day.
+const CSV: &[u8] = b"csv";
 
 /// What a line asks that is taken at this moment, while so much is served, or `None` where it is
 /// out of its form or too long (own profile; `specs/Questions.antt`).
@@ -61,7 +65,8 @@ fn question_of(
     match word {
         QuestionWord::Stop => Ok(Some(Question::Stop)),
         QuestionWord::Clearing => Ok(report_on(ReportKind::Clearing, rest)),
-        QuestionWord::Report => Ok(report_on(ReportKind::Settlement, rest)),
+        QuestionWord::Report => Ok(settlement_of(rest)),
+        QuestionWord::Sums => Ok(sums_on(rest)),
         QuestionWord::Holds => Ok(holds_of(rest, now)),
         QuestionWord::Pending => Ok(pending_on(rest, now)),
         QuestionWord::Explain => explained_of(alloc, rest, now),
@@ -94,6 +99,42 @@ fn report_on(kind: ReportKind, date: &[u8]) -> Option<Question>
     };
     let day = Day::read(date)?;
     Some(Question::Report(DayReport { kind, day }))
+}
+
+/// The settlement report on the day whose date stands before the first comma, in the form behind
+/// it.
+fn settlement_of(text: &[u8]) -> Option<Question>
+    ensures asks { AsksSettlement text.now (position (λ byte. byte == 44) text.now) result }
+    ensures shows { (serving : Serving) → Shows serving result }
+{
+    let Some(comma) = comma_in(text) else {
+        return report_on(ReportKind::Settlement, text);
+    };
+    if &text[comma + 1..] == CSV {
+        report_csv_on(&text[..comma])
+    } else {
+        None
+    }
+}
+
+/// The settlement report as CSV on the day whose date this is.
+fn report_csv_on(date: &[u8]) -> Option<Question>
+    ensures { AsksReportCsv date.now result }
+{
+    let Ok(date) = str::from_utf8(date) else {
+        return None;
+    };
+    Some(Question::ReportCsv(Day::read(date)?))
+}
+
+/// The sums of the day whose date this is.
+fn sums_on(date: &[u8]) -> Option<Question>
+    ensures { AsksSums date.now result }
+{
+    let Ok(date) = str::from_utf8(date) else {
+        return None;
+    };
+    Some(Question::Sums(Day::read(date)?))
 }
 
 /// The answers to what waits of the day whose date this is.

@@ -1,13 +1,11 @@
 //! Records of merchants, terminals and ranges.
 
 ghost use Rattle.std.specs.Prelude.{◌≡◌, IfOk};
-ghost use Rattle.day_totals.specs.Digits.{zero_padded};
 ghost use Rattle.acq_directory.specs.Listings.{merchant_line, range_line, terminal_line};
 
 use acq_core::{Merchant, Terminal};
-use acq_reports::record_text;
+use acq_reports::{prefix_text, record_text};
 use card_no::Range;
-use day_totals::write_digits;
 use itoa::Buffer;
 use std::alloc::{AllocError, Global};
 
@@ -50,13 +48,4 @@ pub(crate) fn range_text(alloc: Global, row: &Range) -> Result<Vec<u8>, AllocErr
         days.format(row.hold_days).as_bytes(),
     ];
     record_text(alloc, &fields)
-}
-
-/// The digits of a prefix.
-fn prefix_text(prefix: u32) -> [u8; 8]
-    ensures { result ≡ zero_padded 8 prefix }
-{
-    let mut text = [b'0'; 8];
-    write_digits(prefix as u64, &mut text);
-    text
 }

@@ -1,7 +1,6 @@
 //! Why a command stopped.
 
 ghost use Rattle.std.specs.Prelude.{◌≡◌};
-ghost use Rattle.day_totals.specs.Digits.{zero_padded};
 
 use acq_book::BookFault;
 use acq_front::FrontFault;
@@ -10,9 +9,9 @@ use acq_link::hex_frames::HexFault;
 use acq_make::MakeFault;
 use acq_out::OutFault;
 use acq_out::records::RecordFault;
-use acq_reports::ReportFault;
+use acq_reports::{ReportFault, prefix_text};
 use card_no::RangeFault;
-use day_totals::{Day, write_digits};
+use day_totals::Day;
 use iso_codec::{DecodeFault, SetFault};
 use std::alloc::AllocError;
 use std::error::Error;
@@ -139,7 +138,7 @@ impl fmt::Display for Fault {
                 Err(_) => Err(fmt::Error),
             },
             Fault::Overlap(low, high) => {
-                let (low, high) = (end_text(*low), end_text(*high));
+                let (low, high) = (prefix_text(*low), prefix_text(*high));
                 match (str::from_utf8(&low), str::from_utf8(&high)) {
                     (Ok(low), Ok(high)) => write!(f, "{} {low} {high}", self.heading()),
                     _ => Err(fmt::Error),
@@ -151,15 +150,6 @@ impl fmt::Display for Fault {
 }
 
 impl Error for Fault {}
-
-/// An end of a range: the eight digits of a prefix.
-pub(crate) fn end_text(end: u32) -> [u8; 8]
-    ensures { result ≡ zero_padded 8 end }
-{
-    let mut text = [b'0'; 8];
-    write_digits(u64::from(end), &mut text);
-    text
-}
 
 impl From<AllocError> for Fault {
     ghost use Rattle.acq_faults.specs.declared.fault.Fault.TheVariants.{Memory};

@@ -5,8 +5,9 @@ ghost use Rattle.day_totals.specs.Day.{date_text_of};
 ghost use Rattle.day_totals.specs.Digits.{zero_padded};
 ghost use Rattle.acq_faults.specs.Faults.{fault_line, values_of};
 
-use crate::fault::{Fault, end_text};
+use crate::fault::Fault;
 use acq_link::{Failed, Sink, write_out};
+use acq_reports::prefix_text;
 use day_totals::Day;
 use itoa::Buffer;
 
@@ -71,7 +72,7 @@ fn put_end<F: Sink>(faults: &mut F, end: u32) -> Result<(), Failed>
     ensures failed { OnErr result (F.failures faults.new ≡ F.failures faults.old + 1) }
 {
     put(faults, b" ")?;
-    put(faults, &end_text(end))
+    put(faults, &prefix_text(end))
 }
 
 /// Writes a day's date behind a space.

@@ -10,7 +10,6 @@
 
 mod asked_words;
 mod found_rows;
-mod hold_ends;
 mod inquiry;
 mod inquiry_text;
 pub mod laws;

@@ -4,9 +4,9 @@ ghost use Rattle.std.specs.Prelude.{◌≡◌, ◌++◌, OnOk};
 ghost use Rattle.acq_inquiry.specs.RequestLines.{held_line, held_words, line_about};
 ghost use Rattle.acq_inquiry.specs.RequestLines.{lowered_words, standing_line};
 
-use crate::hold_ends::end_text;
 use crate::line_parts::{put_line, put_number, put_start};
 use acq_core::{Request, Status};
+use acq_reports::hold_end_text;
 use std::alloc::AllocError;
 
 /// Puts the line of where a request stands, if its status says more than its reply.
@@ -43,7 +43,7 @@ fn put_held_words(text: &mut Vec<u8>, end: u64) -> Result<(), AllocError>
     ensures { OnOk result (text.new.items ≡ text.old.items ++ held_words end) }
 {
     text.extend_from_slice(b"held until ")?;
-    text.extend_from_slice(&end_text(end))
+    text.extend_from_slice(&hold_end_text(end))
 }
 
 /// Puts the line of a hold that a reversal lowered.

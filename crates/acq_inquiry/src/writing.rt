@@ -14,7 +14,7 @@ use crate::inquiry_text::text_of_found;
 use acq_book::Book;
 use acq_core::MerchantId;
 use acq_link::Sink;
-use acq_reports::{Report, ReportFault};
+use acq_reports::{Report, ReportFault, check_merchant};
 use std::alloc::Global;
 
 /// Writes what became of a merchant's requests that are asked for, and of those that share a
@@ -44,20 +44,6 @@ pub fn write_inquiry<B: Book, K: Sink>(
 {
     check_merchant(book, merchant)?;
     write_found(alloc, book, merchant, inquiry, writer)
-}
-
-/// Refuses a merchant that isn't enrolled.
-fn check_merchant<B: Book>(book: &mut B, id: MerchantId) -> Result<(), ReportFault>
-    ensures refuses { B.is_open book.new
-        → Allows (merchant_refusal (B.tables book.old) id) result }
-    ensures unwritten { failed_writes result ≡ 0 }
-    ensures looks { Looks B.Book book.old book.new (is_settled result) }
-    ensures store { CountsStore result (B.failures book.old) (B.failures book.new) }
-{
-    match book.merchant(id)? {
-        Some(_) => Ok(()),
-        None => Err(ReportFault::NoSuchMerchant),
-    }
 }
 
 /// Writes what became of the requests that an inquiry finds.

@@ -1,13 +1,11 @@
 //! Lines of changes of ranges.
 
 ghost use Rattle.std.specs.Prelude.{◌≡◌, IfOk, flat_map};
-ghost use Rattle.day_totals.specs.Digits.{zero_padded};
 ghost use Rattle.acq_range_changes.specs.Lines.{add_line, change_line, drop_line};
 
 use acq_core::Event;
-use acq_reports::record_text;
+use acq_reports::{prefix_text, record_text};
 use card_no::Range;
-use day_totals::write_digits;
 use itoa::Buffer;
 use std::alloc::{AllocError, Global};
 
@@ -65,13 +63,4 @@ fn drop_text(alloc: Global, low: u32, high: u32) -> Result<Vec<u8>, AllocError>
     let none: &[u8] = b"";
     let fields: [&[u8]; 6] = [name, &low, &high, none, none, none];
     record_text(alloc, &fields)
-}
-
-/// The digits of a prefix.
-fn prefix_text(prefix: u32) -> [u8; 8]
-    ensures { result ≡ zero_padded 8 prefix }
-{
-    let mut text = [b'0'; 8];
-    write_digits(prefix as u64, &mut text);
-    text
 }

@@ -14,7 +14,7 @@ const LAST_END: u64 = 4_105_123_199;
 
 /// The last second of a hold, given in seconds since 1970-01-01 00:00:00, written
 /// YYYY-MM-DD hh:mm:ss in UTC.
-pub(crate) fn end_text(seconds: u64) -> [u8; 19]
+pub fn hold_end_text(seconds: u64) -> [u8; 19]
     ensures { result ≡ end_text seconds }
 {
     let seconds = seconds.min(LAST_END);

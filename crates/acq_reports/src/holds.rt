@@ -8,7 +8,7 @@ ghost use Rattle.acq_reports.specs.OpenHolds.{holds_text, hold_fields, is_before
 ghost use Rattle.acq_reports.specs.Refusals.{merchant_refusal};
 ghost use Rattle.acq_reports.specs.Writing.{Reports, Writes};
 
-use crate::hold_ends::end_text;
+use crate::hold_ends::hold_end_text;
 use crate::masks::masked;
 use crate::records::{content_bytes, record_text, reference_text};
 use crate::refusals::check_merchant;
@@ -116,7 +116,7 @@ fn hold_text(alloc: Global, row: &Request) -> Result<Vec<u8>, AllocError>
     let reference = reference_text(row.reference);
     let card = masked(alloc, content_bytes(&row.card))?;
     let mut amount = Buffer::new();
-    let end = end_text(row.hold_end.unwrap_or(0));
+    let end = hold_end_text(row.hold_end.unwrap_or(0));
     let fields: [&[u8]; 4] = [
         &reference,
         card.as_slice(),

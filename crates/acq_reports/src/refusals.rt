@@ -32,7 +32,7 @@ pub fn check_day<B: Book>(book: &mut B, day: Day) -> Result<(), ReportFault>
 
 /// Refuses a merchant that isn't enrolled.
 #[tactic(auto, using(crate::proofs::Chains::looks_more))]
-pub(crate) fn check_merchant<B: Book>(book: &mut B, id: MerchantId) -> Result<(), ReportFault>
+pub fn check_merchant<B: Book>(book: &mut B, id: MerchantId) -> Result<(), ReportFault>
     ensures refuses { B.is_open book.new
         → Allows (merchant_refusal (B.tables book.old) id) result }
     ensures unwritten { failed_writes result ≡ 0 }

@@ -201,7 +201,8 @@ fn put_dotted(line: &mut Vec<u8>, places: usize, number: u64) -> Result<(), Allo
     line.extend_from_slice(digits)
 }
 
-fn state_word(last: Option<Reconciliation>) -> &'static [u8]
+/// What a merchant's last reconciliation of a day found, as a report says it.
+pub fn state_word(last: Option<Reconciliation>) -> &'static [u8]
     ensures { result.now ≡ state_word last }
 {
     match last {

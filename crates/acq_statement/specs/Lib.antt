@@ -4,6 +4,7 @@ pub mod SumsView
 pub mod Currencies
 pub mod Fields
 pub mod ReportCsv
+pub mod DaySums
 pub mod Parts
 pub mod Worked
 pub mod Rows

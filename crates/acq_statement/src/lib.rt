@@ -16,6 +16,7 @@ mod currencies;
 mod currency_lines;
 mod currency_records;
 mod day_record;
+mod day_sums;
 mod days;
 mod enrolled;
 mod figures;
@@ -34,6 +35,7 @@ mod sums;
 mod terminal_sums;
 mod terminals;
 
+pub use day_sums::write_day_sums;
 pub use days::Days;
 pub use report_csv::write_report_csv;
 pub use statement::write_statement;

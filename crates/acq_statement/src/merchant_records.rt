@@ -12,7 +12,7 @@ use crate::sums::Sums;
 use acq_book::{Book, BookFault};
 use acq_core::{Merchant, Reconciliation};
 use acq_link::Sink;
-use acq_reports::{Report, record_text};
+use acq_reports::{Report, record_text, state_word};
 use day_totals::{Day, Totals};
 use std::alloc::{AllocError, Global};
 
@@ -69,14 +69,4 @@ fn merchant_text(
         state_word(last),
     ];
     record_text(alloc, &fields)
-}
-
-fn state_word(last: Option<Reconciliation>) -> &'static [u8]
-    ensures { result.now ≡ state_word last }
-{
-    match last {
-        None => b"none",
-        Some(row) if row.in_balance => b"balanced",
-        Some(_) => b"differs",
-    }
 }

@@ -1,7 +1,7 @@
 //! The words that lines of control connections begin with.
 
 /// These words: those of event lines, of texts, and the others.
-const WORDS: [&str; 18] = [
+const WORDS: [&str; 19] = [
     "frame",
     "answer",
     "cutover",
@@ -11,6 +11,7 @@ const WORDS: [&str; 18] = [
     "terminal",
     "clearing",
     "report",
+    "sums",
     "holds",
     "pending",
     "explain",

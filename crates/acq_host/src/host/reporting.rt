@@ -10,6 +10,7 @@ ghost use Rattle.acq_reports.specs.SettlementReport.{settlement_text};
 ghost use Rattle.acq_reports.specs.Writing.{Allows, Reports};
 ghost use Rattle.acq_clearing.specs.ClearingFile.{clearing_text};
 ghost use Rattle.acq_clearing.specs.Slices.{file_from};
+ghost use Rattle.acq_statement.specs.ReportCsv.{report_csv};
 
 use crate::book_text::BookText;
 use crate::host::Host;
@@ -18,6 +19,7 @@ use acq_clearing::{Bookmark, Slice, clearing, clearing_slice};
 use acq_core::{MerchantId, Moment};
 use acq_link::Sink;
 use acq_reports::{ReportFault, check_day, open_holds, settlement};
+use acq_statement::write_report_csv;
 use day_totals::Day;
 
 impl<B: Book + Drop> Host<B> {
@@ -65,6 +67,19 @@ impl<B: Book + Drop> Host<B> {
         ensures store { TellsStore B.Book self.old self.new result }
     {
         settlement(self.alloc, &mut self.book, day, writer)
+    }
+
+    /// Writes the settlement report of a day that is over as CSV, as `write_report_csv` does.
+    pub fn write_report_csv<K: Sink>(&mut self, day: Day, writer: &mut K) -> Result<(), ReportFault>
+        ensures text { B.is_honest self.new → B.is_open self.old → Reports
+            (day_refusal (B.tables self.old) day) (report_csv (B.tables self.old) day)
+            (K.sent writer.old) (K.sent writer.new) result }
+        ensures writes { K.failures writer.new
+            ≡ K.failures writer.old + failed_writes result }
+        ensures looks { Looks B.Book self.old self.new (is_settled result) }
+        ensures store { TellsStore B.Book self.old self.new result }
+    {
+        write_report_csv(self.alloc, &mut self.book, day, writer)
     }
 
     /// Writes a merchant's open holds, as `open_holds` does.

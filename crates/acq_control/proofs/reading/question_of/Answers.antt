@@ -23,8 +23,18 @@ returns-in-Report-clause-asks c =
     let whole : line ≡ without_return c.args.line.now = c.without_return-line.ensures in
     let n : c.length.result ≡ 7 = c.length.ensures ∙ ap word_length c.in-Report.is in
     let is : word_of line ≡ word.Report = sym c.of-word.ensures.word ∙ c.in-Report.is in
-    let asks : AsksBy (word_of line) c.args.now line c.report_on-in-Report.result =
-    rw is (rw (n, behind 7 line) at c.report_on-in-Report.ensures) in
+    let asks : AsksBy (word_of line) c.args.now line c.settlement_of.result =
+    rw is (rw (n, behind 7 line) at c.settlement_of.ensures.asks) in
+    rw whole at asks
+
+pub returns-in-Sums-clause-asks : goal.returns-in-Sums-clause-asks
+returns-in-Sums-clause-asks c =
+    let line = c.without_return-line.result.now in
+    let whole : line ≡ without_return c.args.line.now = c.without_return-line.ensures in
+    let n : c.length.result ≡ 5 = c.length.ensures ∙ ap word_length c.in-Sums.is in
+    let is : word_of line ≡ word.Sums = sym c.of-word.ensures.word ∙ c.in-Sums.is in
+    let asks : AsksBy (word_of line) c.args.now line c.sums_on.result =
+    rw is (rw (n, behind 5 line) at c.sums_on.ensures) in
     rw whole at asks
 
 pub returns-in-Holds-clause-asks : goal.returns-in-Holds-clause-asks

@@ -11,7 +11,7 @@ returns c =
       c.as_bytes.ensures.value,
       c.format.ensures.text,
       c.number.ensures.value,
-      c.end_text-end.ensures,
+      c.hold_end_text-end.ensures,
       c.unwrap_or.ensures,
     )
     at h
