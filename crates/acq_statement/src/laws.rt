@@ -3,6 +3,7 @@
 ghost use Rattle.std.specs.Prelude.{◌≡◌, ◌++◌, ◌∷◌, [], ◌-ℤ◌, neg_ℤ, pos, None, Some, codes};
 ghost use Rattle.day_totals.specs.Totals.{DayTotals, net_of};
 ghost use Rattle.acq_reports.specs.declared.report_fault.ReportFault.TheVariants.{NoSuchMerchant};
+ghost use Rattle.acq_statement.specs.DaySums.{day_sums, sums_header};
 ghost use Rattle.acq_statement.specs.LegTexts.{due_to_acquirer, due_to_merchant};
 ghost use Rattle.acq_statement.specs.Span.{days_of, statement_refusal};
 ghost use Rattle.acq_statement.specs.Sums.{owed_of};
@@ -24,6 +25,16 @@ pub fn worked_report_csv()
         ++ codes "MERCHANT0000003,840,0,0,0,0,0,0,0,0,0,none\n"
         ++ codes ",978,1,700,0,0,3,3800,1,400,2700,\n"
         ++ codes ",840,0,0,0,0,0,0,0,0,0,\n" }
+{}
+
+/// The sums of a day, computed: of two currencies, and of a day without postings.
+pub fn worked_sums()
+    ensures two { day_sums stated_tables 8887
+        ≡ sums_header ++ codes "978,1,700,0,0,3,3800,1,400,2700\n"
+        ++ codes "840,0,0,0,0,0,0,0,0,0\n" }
+    ensures none { day_sums stated_tables 1
+        ≡ sums_header ++ codes "978,0,0,0,0,0,0,0,0,0\n"
+        ++ codes "840,0,0,0,0,0,0,0,0,0\n" }
 {}
 
 /// A statement of two merchants as text, computed.

@@ -1,4 +1,4 @@
-use Rattle.std.proofs.Common.{true, false, ◌++◌, ◌∷◌, [], refl, rules}
+use Rattle.std.proofs.Common.{true, false, ◌∷◌, [], refl, rules}
 use Rattle.std.specs.Prelude.{flat_map}
 use Rattle.acq_statement.specs.DaySums.{sums_header, sums_record}
 use Rattle.acq_statement.proofs.Parts.{part_put, part_then, part_stopped}
