@@ -106,7 +106,7 @@ nearest_alone : IsAlone text.nearest_text 1
 unfolding understood everything book_schema
 nearest_alone = record { whole = λ form. refl; given = λ form. refl }
 
-overlapping_alone : IsAlone text.overlapping_text 2
+overlapping_alone : IsAlone text.overlapping_text 3
 unfolding understood everything book_schema
 overlapping_alone = record { whole = λ form. refl; given = λ form. refl }
 
@@ -176,11 +176,12 @@ typed_nearest : (form : Form) (prefix : ℕ)
 unfolding book_schema
 typed_nearest form prefix = refl
 
-typed_overlapping : (form : Form) (low high : ℕ)
-    → accepts_program (book_schema form) [] query.overlapping_query (number low ∷ number high ∷ [])
+typed_overlapping : (form : Form) (first low high : ℕ)
+    → accepts_program (book_schema form) [] query.overlapping_query
+    (number first ∷ number low ∷ number high ∷ [])
     ≡ true
 unfolding book_schema
-typed_overlapping form low high = refl
+typed_overlapping form first low high = refl
 
 typed_request : (form : Form) (key : RequestKey)
     → accepts_program (book_schema form) [] query.request_query (key_row key) ≡ true
@@ -329,12 +330,12 @@ module _ {V : Type 0} (old new : State) (res : Result V Error) where
       fails text.nearest_text (number prefix ∷ []) _ _ _ _ _ _ asks.nearest_asks nearest_alone
       (λ form. typed_nearest form prefix)
 
-  pub overlapping_fails : (low high : ℕ)
-      → Failed text.overlapping_text (number low ∷ number high ∷ [])
+  pub overlapping_fails : (first low high : ℕ)
+      → Failed text.overlapping_text (number first ∷ number low ∷ number high ∷ [])
       → FailsOnlyExcused old new res
-  overlapping_fails low high =
-      fails text.overlapping_text (number low ∷ number high ∷ []) _ _ _ _ _ _
-      asks.overlapping_asks overlapping_alone (λ form. typed_overlapping form low high)
+  overlapping_fails first low high =
+      fails text.overlapping_text (number first ∷ number low ∷ number high ∷ []) _ _ _ _ _ _
+      asks.overlapping_asks overlapping_alone (λ form. typed_overlapping form first low high)
 
   pub request_fails : (key : RequestKey) → Failed text.request_text (key_row key)
       → FailsOnlyExcused old new res
@@ -478,7 +479,7 @@ pub range_shown : (t : Tables) → HasPast t → (prefix : ℕ) (rows : List Row
     → IsNearest prefix t.ranges rows → Some row ≡ slice_get rows 0 → IsRangeRow row
 range_shown t past prefix rows row (inl none) some =
     absurd (let e = some ∙ ap (λ l. slice_get l 0) none.0 in cc)
-range_shown t past prefix rows row (inr (r, one, found, listed)) some =
+range_shown t past prefix rows row (inr (r, one, found, listed, below)) some =
     (r, one_first rows row (range_cells r) one some, range_valid t past r listed)
 
 pub overlap_shown : (t : Tables) → HasPast t → (low high : ℕ) (rows : List Row) (row : Row)
@@ -643,7 +644,7 @@ balance_shown o rows row are some =
 
 -- ---- one look-up after another that succeeded
 
-excused_from : (old mid new : State) (e : Error) → old.faults ≤ mid.faults
+pub excused_from : (old mid new : State) (e : Error) → old.faults ≤ mid.faults
     → IsExcused mid new e → IsExcused old new e
 excused_from old mid new e up (inl memory) = inl memory
 excused_from old mid new e up (inr more) = inr (omega (arith, up, more))

@@ -1,14 +1,14 @@
 -- What the look-ups of ranges answer.
 use Rattle.std.proofs.Common.{◌≡◌, ◌<◌, ◌≤◌, ℕ, inl, inr, Bool, true, false, true≢false, cond}
-use Rattle.std.proofs.Common.{nat_le, nat_lt, List, []}
+use Rattle.std.proofs.Common.{nat_le, nat_lt, ◌&&◌, List, []}
 use Rattle.std.proofs.Common.{◌∷◌, filter, find, option_map, length, slice_get, None, Some, refl}
 use Rattle.std.proofs.Common.{sym, ap, subst}
 use Rattle.std.proofs.Common.{◌∙◌, arith}
 use Rattle.std.specs.Option.{option_to_list}
 use Rattle.std.specs.Ordering.{is_gt}
-use Rattle.std.proofs.lemmas.Bool.{and_parts}
+use Rattle.std.proofs.lemmas.Bool.{and_parts, le-leb}
 use Rattle.std.proofs.lemmas.Bool.Decides.{nat_tests}
-use Rattle.sqlite_value.specs.Order.{Row, value_cmp}
+use Rattle.sqlite_value.specs.Order.{Row, column, value_cmp}
 use Rattle.sqlite_value.proofs.OrderLemmas.{then-Equal}
 use Rattle.sqlite_trees.specs.Tree.{IsAscending}
 use Rattle.sqlite_trees.proofs.ListLemmas.{ascending_weaker}
@@ -30,7 +30,7 @@ use Rattle.acq_sql_rows.specs.Schema.{book_schema}
 use Rattle.acq_sql_rows.specs.Rows.{range_row}
 use Rattle.acq_sql_rows.specs.Tallies.{Running}
 use Rattle.acq_sql_rows.specs.Relation.{HoldsRows, AreRising}
-use Rattle.acq_sql_reads.specs.Looked.{range_cells, if_holds, IsNearest}
+use Rattle.acq_sql_reads.specs.Looked.{range_cells, if_holds, IsNearest, ReachFrom}
 use Rattle.acq_sql_reads.specs.Texts as text
 use Rattle.acq_sql_reads.specs.Queries as query
 use Rattle.acq_sql_reads.proofs.TextLemmas as asks
@@ -128,7 +128,7 @@ module _ (prefix : ℕ) where
         | inr (inl before) ↦ absurd (omega (arith, before.1, below, high))
         | inr (inr after) ↦ absurd (omega (arith, after.0, near))
       ] in
-      inr (x, is, go (holds_prefix prefix x) refl only, listed.0)
+      inr (x, is, go (holds_prefix prefix x) refl only, listed.0, below)
     where
       go : (b : Bool) → holds_prefix prefix x ≡ b →
           ((y : Range) → Has xs y → holds_prefix prefix y ≡ true → y ≡ x)
@@ -162,53 +162,88 @@ least p (y ∷ xs) x up here passes low =
     go false is (inl same) later = absurd (true≢false (sym passes ∙ ap p same ∙ is))
     go false is (inr there) later = later there
 
-module _ (low high : ℕ) where
+module _ (first low high : ℕ) where
   abbrev overlaps_ends : Range → Bool
   overlaps_ends = overlaps (between low high)
 
+  -- it begins at or above the first, and overlaps
+  abbrev is_sought : Range → Bool
+  is_sought r = nat_le first r.low && overlaps_ends r
+
   abbrev ends_row : Row
-  ends_row = number low ∷ number high ∷ []
+  ends_row = number first ∷ number low ∷ number high ∷ []
 
   abbrev NotAbove : Range → Range → Type 0
   NotAbove x y = x.low ≤ y.low
 
-  least_is : (xs : List Range) (rows : List Row) → AreRising xs
-      → IsFirst NotAbove (filter overlaps_ends xs) range_cells rows
+  sought : (xs : List Range) → ReachFrom low xs first → (x : Range) → Has xs x
+      → overlaps_ends x ≡ true → is_sought x ≡ true
+  sought xs reach x here passes =
+      let far = at_most_is low x.high (and_parts _ _ passes).0 in
+      rw (le-leb first x.low (reach x here far)) passes
+
+  least_is : (xs : List Range) (rows : List Row) → AreRising xs → ReachFrom low xs first
+      → IsFirst NotAbove (filter is_sought xs) range_cells rows
       → rows ≡ option_to_list (option_map range_cells (find overlaps_ends xs))
-  least_is xs rows up (inl h) =
+  least_is xs rows up reach (inl h) =
       let none = find_no overlaps_ends xs (λ x here passes.
-      subst (λ l. Has l x) h.1 (has_kept overlaps_ends xs x here passes)) in
+      subst (λ l. Has l x) h.1 (has_kept is_sought xs x here (sought xs reach x here passes))) in
       h.0 ∙ ap (λ o. option_to_list (option_map range_cells o)) (sym none)
-  least_is xs rows up (inr (x, among, is, first)) =
-      let listed = has_filtered overlaps_ends xs x among in
+  least_is xs rows up reach (inr (x, among, is, foremost)) =
+      let listed = has_filtered is_sought xs x among in
       let low_is : (y : Range) → Has xs y → overlaps_ends y ≡ true →
       x.low ≤ y.low = λ y here passes.
-      elim (first y (has_kept overlaps_ends xs y here passes)) [
+      elim (foremost y (has_kept is_sought xs y here (sought xs reach y here passes))) [
         | inl same ↦ rw same (omega arith)
         | inr before ↦ before
       ] in
-      let found = least overlaps_ends xs x up listed.0 listed.1 low_is in
+      let found = least overlaps_ends xs x up listed.0 (and_parts _ _ listed.1).1 low_is in
       is ∙ ap (λ o. option_to_list (option_map range_cells o)) (sym found)
 
   pub overlapping_found : (old new : State) (t : Tables) (runs : List Running) (rows : List Row)
-      → HoldsRows old.now t runs → Shown text.overlapping_text ends_row old new rows
+      → HoldsRows old.now t runs → ReachFrom low t.ranges first
+      → Shown text.overlapping_text ends_row old new rows
       → rows ≡ option_to_list (option_map range_cells (overlapping_at t low high))
-  overlapping_found old new t runs rows has shown =
+  overlapping_found old new t runs rows has reach shown =
       let ask = asks.overlapping_asks in
       let it = query.overlapping_query in
       let all = shows_keyed range_row (book_schema has.schema.0) 5 t.ranges old new has.schema.1
       has.ranges
       text.overlapping_text
       ends_row _ (ask.plain has.schema.0) (ask.unlisted has.schema.0) rows shown it.filter
-      it.project overlaps_ends
-      (λ x. rw (at_most_test low x.high, at_most_test x.low high, and_true) refl) it.order it.limit
-      range_out
+      it.project is_sought
+      (λ x. rw (at_most_test first x.low, at_most_test low x.high, at_most_test x.low high, and_true)
+      refl) it.order it.limit range_out
       (λ x. refl) (ask.is has.schema.0) in
-      least_is t.ranges rows has.rising
-      (first_element NotAbove (filter overlaps_ends t.ranges) all.0 range_cells rows all.1
+      least_is t.ranges rows has.rising reach
+      (first_element NotAbove (filter is_sought t.ranges) all.0 range_cells rows all.1
       (ascending_weaker _ NotAbove (λ x y h. number_at_most x.low y.low
       (ap is_gt (sym (then-Equal (value_cmp (number x.low) (number y.low)))) ∙ h)) all.0 all.2)
       all.3)
+
+-- ---- from which low on ranges reach up to a number
+
+-- those before one that begins by then end before it begins
+reach_from : (up_to : ℕ) (xs : List Range) (r : Range) → are_apart xs ≡ true → AreRising xs
+    → Has xs r → r.low ≤ up_to → ReachFrom up_to xs r.low
+reach_from up_to xs r apart up listed below s here far =
+    elim (either_way _ xs s r (precede xs apart up) here listed) [
+      | inl same ↦ rw same (omega arith)
+      | inr (inl before) ↦ absurd (omega (arith, before.1, below, far))
+      | inr (inr after) ↦ omega (arith, after.0)
+    ]
+
+pub first_read : (up_to : ℕ) (xs : List Range) (rows : List Row) (row : Row) (n : ℕ)
+    → are_apart xs ≡ true → AreRising xs → IsNearest up_to xs rows
+    → Some row ≡ slice_get rows 0 → column row 0 ≡ number n → ReachFrom up_to xs n
+first_read up_to xs rows row n apart up (inl none) some is =
+    absurd (let e = some ∙ ap (λ l. slice_get l 0) none.0 in cc)
+first_read up_to xs rows row n apart up (inr (r, one, found, listed, below)) some is =
+    let first : row ≡ range_cells r =
+    let e : Some row ≡ Some (range_cells r) = some ∙ ap (λ l. slice_get l 0) one in cc in
+    let low : number r.low ≡ number n = sym (ap (λ l. column l 0) first) ∙ is in
+    let same : r.low ≡ n = cc in
+    subst (ReachFrom up_to xs) same (reach_from up_to xs r apart up listed below)
 
 -- ---- the range that was read
 
@@ -224,7 +259,7 @@ pub no_range : (prefix : ℕ) (xs : List Range) (rows : List Row) → IsNearest 
     None ≡ slice_get rows 0
     → None ≡ range_of_prefix xs prefix
 no_range prefix xs rows (inl none) is = sym none.1
-no_range prefix xs rows (inr (r, one, found, listed)) is =
+no_range prefix xs rows (inr (r, one, found, listed, below)) is =
     absurd (let e = is ∙ ap (λ l. slice_get l 0) one in cc)
 
 pub range_read : (prefix : ℕ) (xs : List Range) (rows : List Row) (row : Row) (x : Range) →
@@ -233,7 +268,7 @@ pub range_read : (prefix : ℕ) (xs : List Range) (rows : List Row) (row : Row) 
     → if_holds prefix x ≡ range_of_prefix xs prefix
 range_read prefix xs rows row x (inl none) some read =
     absurd (let e = some ∙ ap (λ l. slice_get l 0) none.0 in cc)
-range_read prefix xs rows row x (inr (r, one, found, listed)) some read =
+range_read prefix xs rows row x (inr (r, one, found, listed, below)) some read =
     let first : row ≡ range_cells r =
     let e : Some row ≡ Some (range_cells r) = some ∙ ap (λ l. slice_get l 0) one in cc in
     ap (if_holds prefix) (same_range x r (sym (read (ap length first)) ∙ first)) ∙ sym found

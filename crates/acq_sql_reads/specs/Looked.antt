@@ -72,7 +72,11 @@ abbrev pub IsNearest : ℕ → List Range → List Row → Type 0
 IsNearest prefix ranges rows =
     ((rows ≡ []) × (range_of_prefix ranges prefix ≡ None))
     ⊎ ((r : Range) × (rows ≡ range_cells r ∷ [])
-    × (range_of_prefix ranges prefix ≡ if_holds prefix r) × Has ranges r)
+    × (range_of_prefix ranges prefix ≡ if_holds prefix r) × Has ranges r × (r.low ≤ prefix))
+
+-- of the ranges, each that reaches up to a number begins at this low or above it
+abbrev pub ReachFrom : ℕ → List Range → ℕ → Type 0
+ReachFrom number ranges first = (r : Range) → Has ranges r → number ≤ r.high → first ≤ r.low
 
 -- ---- reconciliations
 

@@ -1,12 +1,12 @@
 //! The look-ups and the walks of a book in SQL.
 //!
 //! Each look-up is one SELECT or two, and says what it gives of the tables that the rows hold
-//! (`specs/Looked.antt`). All but `overlapping` and the counts (`pending`, `waiting_count`,
-//! `used_on`, `terminal_count`, `range_count`) read by a key that an index has. Each walk is one
-//! SELECT with ORDER BY, whose rows are read and handed over one at a time, so that no whole list
-//! is held (`specs/Walked.antt`). A row that the host can't have written is reported as a corrupt
-//! database, by a walk after the rows before it. Over a book whose tables events led to, each of
-//! them fails only for memory or since the store failed (`specs/Failing.antt`).
+//! (`specs/Looked.antt`). All but the counts (`pending`, `waiting_count`, `used_on`,
+//! `terminal_count`, `range_count`) read by a key that an index has. Each walk is one SELECT with
+//! ORDER BY, whose rows are read and handed over one at a time, so that no whole list is held
+//! (`specs/Walked.antt`). A row that the host can't have written is reported as a corrupt database,
+//! by a walk after the rows before it. Over a book whose tables events led to, each of them fails
+//! only for memory or since the store failed (`specs/Failing.antt`).
 #![tactic(auto)]
 
 mod book_row;

@@ -16,7 +16,7 @@ returns-clause-answers g c clean t holds apart =
     (λ rows shown. nearest_found c.args.prefix (state g.S.Store c.args.conn.now)
     (state g.S.Store c.query_all.new.self)
     t holds.runs rows.items holds.rows apart
-    (rw (c.short_value.ensures, c.number.ensures.value) at shown))
+    (rw c.short_value.ensures at shown))
     (c.query_all.ensures.ok clean)
 
 pub returns-clause-looks : goal.returns-clause-looks
@@ -31,4 +31,4 @@ pub returns-clause-fails : goal.returns-clause-fails
 returns-clause-fails g c =
     nearest_fails (state g.S.Store c.args.conn.now) (state g.S.Store c.query_all.new.self)
     c.query_all.result c.args.prefix
-    (rw (c.short_value.ensures, c.number.ensures.value) at c.query_all.ensures.err)
+    (rw c.short_value.ensures at c.query_all.ensures.err)

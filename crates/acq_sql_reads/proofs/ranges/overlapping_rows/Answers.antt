@@ -11,18 +11,19 @@ use Rattle.acq_sql_reads.proofs.Failing.{overlapping_fails}
 use Rattle.acq_sql_reads.proofs.ranges.overlapping_rows.Goals as goal
 
 pub returns-clause-answers : goal.returns-clause-answers
-returns-clause-answers g c clean t holds =
+returns-clause-answers g c clean t holds reach =
     IfOk-weaker c.query_all.result _ _
-    (λ rows shown. overlapping_found c.args.low c.args.high
+    (λ rows shown. overlapping_found c.args.first c.args.low c.args.high
     (state g.S.Store c.args.conn.now) (state g.S.Store c.query_all.new.self)
-    t holds.runs rows.items holds.rows
-    (rw (c.short_value.ensures, c.short_value-2.ensures) at shown))
+    t holds.runs rows.items holds.rows reach
+    (rw (c.short_value.ensures, c.short_value-2.ensures, c.short_value-3.ensures) at shown))
     (c.query_all.ensures.ok clean)
 
 pub returns-clause-looks : goal.returns-clause-looks
 returns-clause-looks g c =
     looks overlapping_text
-    (bound_value (owned c.short_value.result) ∷ bound_value (owned c.short_value-2.result) ∷ [])
+    (bound_value (owned c.short_value.result) ∷ bound_value (owned c.short_value-2.result)
+    ∷ bound_value (owned c.short_value-3.result) ∷ [])
     (state g.S.Store c.args.conn.now) (state g.S.Store c.query_all.new.self)
     overlapping_asks.begins (λ rows. rows.items) c.query_all.result c.query_all.ensures.ok
     c.query_all.ensures.err c.query_all.ensures.mode
@@ -31,5 +32,6 @@ returns-clause-looks g c =
 pub returns-clause-fails : goal.returns-clause-fails
 returns-clause-fails g c =
     overlapping_fails (state g.S.Store c.args.conn.now) (state g.S.Store c.query_all.new.self)
-    c.query_all.result c.args.low c.args.high
-    (rw (c.short_value.ensures, c.short_value-2.ensures) at c.query_all.ensures.err)
+    c.query_all.result c.args.first c.args.low c.args.high
+    (rw (c.short_value.ensures, c.short_value-2.ensures, c.short_value-3.ensures)
+    at c.query_all.ensures.err)

@@ -40,6 +40,6 @@ returns-in_err-range-clause-fails g c clean t at past free =
     let p = err_from_is_err_and c.from_residual-in_err-range.result
     c.from_residual-in_err-range.ensures.1 in
     rw (p.1, p.2) (inl (c.in_err-range.ensures.fails
-    (range_shown t past c.args.prefix c.in_ok-rows.rows.items c.in-Some.row.now
+    (range_shown t past c.number.result c.in_ok-rows.rows.items c.in-Some.row.now
     (c.in_ok-rows.ensures.answers clean t at.holds (ranges_apart t past))
     (c.in-Some.ensures.value ∙ ap (λ l. slice_get l 0) c.deref.ensures.value))))
