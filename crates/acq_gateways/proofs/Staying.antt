@@ -8,7 +8,7 @@ use Rattle.acq_gateway.specs.declared.gateway.Gateway.{Gateway}
 use Rattle.acq_gateway.specs.Telling.{IsNew}
 use Rattle.acq_rounds.specs.Acts.{Connection}
 use Rattle.acq_rounds.specs.Runs.{Step}
-use Rattle.acq_gateways.specs.Following.{GatewaysFollow, GoesOn, IsTold, LooksOn, Stays, WasTold}
+use Rattle.acq_gateways.specs.Following.{GatewaysFollow, IsTold, WasTold}
 use Rattle.acq_gateways.specs.Following.{looks_by, many_here}
 use Rattle.acq_gateways.specs.Parting.{EndsAs, last_of}
 use Rattle.acq_gateways.specs.Told.{Open, Told}

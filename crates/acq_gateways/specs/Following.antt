@@ -65,8 +65,8 @@ GoesOn before after =
     → IsTold t steps after.went after.gateway
 
 -- whatever steps they follow, they do so as before
-abbrev pub Stays : Told → Told → Type 0
-Stays before after =
+abbrev pub GatewaysStay : Told → Told → Type 0
+GatewaysStay before after =
     (t : Tables) (steps : List Step) → GatewaysFollow t steps before
     → GatewaysFollow t steps after
 

@@ -3,7 +3,7 @@
 ghost use Rattle.std.specs.Prelude.{ℕ, is_ok};
 ghost use Rattle.acq_book.specs.Calls.{Looks};
 ghost use Rattle.acq_book.specs.Promise.{CountsFault};
-ghost use Rattle.acq_gateways.specs.Following.{HadNone, LooksOn, Stays};
+ghost use Rattle.acq_gateways.specs.Following.{GatewaysStay, HadNone, LooksOn};
 ghost use Rattle.acq_gateways.specs.Parting.{EndsAs};
 ghost use Rattle.acq_gateways.specs.Told.{seen, told_of};
 
@@ -50,7 +50,7 @@ impl<S: Read + Write + Drop> Gateways<S> {
 
     /// One connects to this desk over a stream, if none is there. Returns whether it did.
     pub fn connect(&mut self, alloc: Global, desk: GatewayDesk, stream: S) -> bool
-        ensures stays { Stays (told_of self.old) (told_of self.new) }
+        ensures stays { GatewaysStay (told_of self.old) (told_of self.new) }
     {
         if self.here.is_some() || self.count == u64::MAX {
             return false;
@@ -67,7 +67,7 @@ impl<S: Read + Write + Drop> Gateways<S> {
 
     /// There may be new rows.
     pub fn note_news(&mut self)
-        ensures stays { Stays (told_of self.old) (told_of self.new) }
+        ensures stays { GatewaysStay (told_of self.old) (told_of self.new) }
     {
         if let Some(here) = &mut self.here {
             here.gateway.note_news();
@@ -76,7 +76,7 @@ impl<S: Read + Write + Drop> Gateways<S> {
 
     /// Reads what came, and takes its lines. Returns how it ended, if it did: it is gone then.
     pub fn receive(&mut self, ready: &mut Readiness) -> Option<Result<(), FrontFault>>
-        ensures stays { Stays (told_of self.old) (told_of self.new) }
+        ensures stays { GatewaysStay (told_of self.old) (told_of self.new) }
     {
         let mut here = self.here.take()?;
         match here.receive(ready) {
@@ -119,7 +119,7 @@ impl<S: Read + Write + Drop> Gateways<S> {
 
     /// The number of the book's rows, where it knew of more: told once.
     pub fn take_missing(&mut self) -> Option<u64>
-        ensures stays { Stays (told_of self.old) (told_of self.new) }
+        ensures stays { GatewaysStay (told_of self.old) (told_of self.new) }
     {
         match &mut self.here {
             Some(here) => here.gateway.take_missing(),
@@ -129,7 +129,7 @@ impl<S: Read + Write + Drop> Gateways<S> {
 
     /// Writes what can go. Returns how it ended, if it did: it is gone then.
     pub fn send(&mut self, ready: &mut Readiness) -> Option<Result<(), FrontFault>>
-        ensures stays { Stays (told_of self.old) (told_of self.new) }
+        ensures stays { GatewaysStay (told_of self.old) (told_of self.new) }
     {
         let mut here = self.here.take()?;
         match here.send(ready) {
@@ -146,7 +146,7 @@ impl<S: Read + Write + Drop> Gateways<S> {
 
     /// It is parted with, if one is there.
     pub fn part(&mut self)
-        ensures stays { Stays (told_of self.old) (told_of self.new) }
+        ensures stays { GatewaysStay (told_of self.old) (told_of self.new) }
     {
         if let Some(here) = self.here.take() {
             self.note(here);

@@ -6,6 +6,7 @@
 #![tactic(auto)]
 
 mod gateways;
+pub mod laws;
 mod open_gateway;
 mod readiness;
 
