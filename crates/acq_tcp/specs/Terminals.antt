@@ -1,13 +1,13 @@
 -- What terminals' connections show, where they come from, and what their server had of them.
 use Rattle.std.specs.Prelude.{ℕ, Bool, List}
 use Rattle.mio.specs.declared.net.stream.TcpStream.{TcpStream}
-use Rattle.acq_controls.specs.Aside.{Aside, aside_of}
 use Rattle.acq_front.specs.Ends as conversation
 use Rattle.acq_front.specs.Lines.{received_of, sent_of}
 use Rattle.acq_front.specs.declared.stream_line.StreamLine.{StreamLine}
 use Rattle.acq_rounds.specs.Acts.{Connection}
 use Rattle.acq_rounds.specs.declared.place.Place.{Place}
 use Rattle.acq_tcp.specs.declared.arrivals.Arrivals.{Arrivals}
+use Rattle.acq_tcp.specs.Others.{Beside, beside_of}
 use Rattle.acq_tcp.specs.declared.tcp_server.TcpServer.{TcpServer}
 use Rattle.acq_tcp.specs.declared.terminal_talk.TerminalTalk.{TerminalTalk}
 
@@ -42,9 +42,9 @@ module _ {T W F : Type 0} where
   abbrev pub stopped_at : Arrivals T W F → Bool
   stopped_at a = a.has_stopped
 
-  -- what control connections have had
-  abbrev pub controls_at : Arrivals T W F → Aside
-  controls_at a = aside_of a.controls
+  -- what control connections and gateways have had
+  abbrev pub others_at : Arrivals T W F → Beside
+  others_at a = beside_of a.others
 
 module _ {T W : Type 0} where
   abbrev pub had_by : TcpServer T W → List Connection
@@ -53,5 +53,5 @@ module _ {T W : Type 0} where
   abbrev pub many_by : TcpServer T W → ℕ
   many_by s = s.had.count
 
-  abbrev pub controls_by : TcpServer T W → Aside
-  controls_by s = aside_of s.controls
+  abbrev pub others_by : TcpServer T W → Beside
+  others_by s = beside_of s.others

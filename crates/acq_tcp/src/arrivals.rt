@@ -1,21 +1,19 @@
 //! Where terminals' connections come from, and where they go.
 
 ghost use Rattle.std.specs.Prelude.{◌≡◌, ◌++◌, [], ◌∷◌, false};
-ghost use Rattle.acq_controls.specs.Aside.{Aside, aside_of};
-ghost use Rattle.acq_controls.specs.Following.{ControlsFollow, Stays};
-ghost use Rattle.acq_controls.proofs.Staying.{past_group, past_untold};
-ghost use Rattle.acq_tcp.specs.Terminals.{connection_of, controls_at, ended_at, given_at};
+ghost use Rattle.acq_tcp.specs.Others.{Beside, OthersFollow, OthersStay, beside_of};
+ghost use Rattle.acq_tcp.specs.Past.{past_group, past_untold};
+ghost use Rattle.acq_tcp.specs.Terminals.{connection_of, ended_at, given_at, others_at};
 ghost use Rattle.acq_tcp.specs.Terminals.{stopped_at};
 
-use crate::control_stream::ControlStream;
 use crate::had::Given;
 use crate::log_target::LogTarget;
 use crate::open_places::OpenPlaces;
+use crate::others::Others;
 use crate::round_time::RoundTime;
 use crate::tcp_server::TcpServer;
 use crate::terminal_talk::{TerminalPlace, TerminalTalk};
 use acq_book::{Book, BookFault};
-use acq_controls::Controls;
 use acq_front::{Clock, FrontFault, StreamLine};
 use acq_host::Host;
 use acq_link::Sink;
@@ -33,20 +31,20 @@ pub(crate) struct Arrivals<'s, 'r, 'a, T, W, F> {
     time: &'r RoundTime,
     /// The memory for messages that are kept for a gateway, where one may connect.
     keeper: Option<Global>,
-    controls: Controls<ControlStream>,
+    others: Others,
     past: Past,
     /// How many came.
     given: u64,
     has_stopped: bool,
 }
 
-/// What is known behind the last of them: what they have had, how many came, what control
-/// connections have had, and whether the system couldn't be waited for.
+/// What is known behind the last of them: what they have had, how many came, what others have had,
+/// and whether the system couldn't be waited for.
 #[derive(Drop)]
 pub(crate) struct Departed {
     pub(crate) past: Past,
     pub(crate) given: Given,
-    pub(crate) controls: Controls<ControlStream>,
+    pub(crate) others: Others,
     pub(crate) has_failed: bool,
 }
 
@@ -64,19 +62,19 @@ impl<'s, 'r, 'a, T: time::Clock + Files, W: LogTarget + Drop, F: Sink> Arrivals<
         server: &'s mut TcpServer<'a, T, W>,
         faults: &'s mut F,
         time: &'r RoundTime,
-        controls: Controls<ControlStream>,
+        others: Others,
         count: u64,
     ) -> Arrivals<'s, 'r, 'a, T, W, F>
         ensures ended { ended_at result ≡ [] }
         ensures given { given_at result ≡ 0 }
-        ensures controls { controls_at result ≡ aside_of controls }
+        ensures others { others_at result ≡ beside_of others }
     {
         let keeper = server.gateway.is_some().then_some(alloc);
         Arrivals {
             places: OpenPlaces::new(alloc, server, faults, time, count),
             time,
             keeper,
-            controls,
+            others,
             past: Past::new(),
             given: 0,
             has_stopped: false,
@@ -87,23 +85,23 @@ impl<'s, 'r, 'a, T: time::Clock + Files, W: LogTarget + Drop, F: Sink> Arrivals<
     pub(crate) fn end(self) -> Departed
         ensures ended { result.past.list ≡ ended_at self.entry }
         ensures given { result.given.number ≡ given_at self.entry }
-        ensures controls { Stays (controls_at self.entry) (aside_of result.controls) }
+        ensures others { OthersStay (others_at self.entry) (beside_of result.others) }
     {
         let Arrivals {
             mut places,
             time: _,
             keeper: _,
-            mut controls,
+            mut others,
             past,
             given,
             has_stopped: _,
         } = self;
-        places.close_gateway();
-        places.end(&mut controls);
+        places.close_gateway(&mut others.gateways);
+        places.end(&mut others.controls);
         Departed {
             past,
             given: Given { number: given },
-            controls,
+            others,
             has_failed: places.has_failed(),
         }
     }
@@ -119,18 +117,20 @@ impl<'s, 'r, 'a, T: time::Clock + Files, W: LogTarget + Drop, F: Sink> Gate<
 
     ghost has_stopped = { stopped_at };
 
-    ghost aside = { Aside };
+    ghost aside = { Beside };
 
-    ghost others = { controls_at };
+    ghost others = { others_at };
 
-    ghost follow = { ControlsFollow };
+    ghost follow = { OthersFollow };
 
     ghost past_group = { past_group };
 
     ghost past_untold = { past_untold };
 
     fn wait(&mut self, has_already: bool, at_most: Option<Duration>) -> bool {
-        let goes_on = self.places.wait(has_already, at_most);
+        let goes_on = self
+            .places
+            .wait(&self.others.gateways, has_already, at_most);
         self.has_stopped = !goes_on;
         goes_on
     }
@@ -155,7 +155,7 @@ impl<'s, 'r, 'a, T: time::Clock + Files, W: LogTarget + Drop, F: Sink> Gate<
         host: &mut Host<B>,
         clock: &mut C,
     ) -> Result<(), BookFault> {
-        self.places.between(alloc, &mut self.controls, host, clock)
+        self.places.between(alloc, &mut self.others, host, clock)
     }
 
     fn looks(&mut self) -> bool {
@@ -172,7 +172,7 @@ impl<'s, 'r, 'a, T: time::Clock + Files, W: LogTarget + Drop, F: Sink> Gate<
 
     fn part(&mut self, place: TerminalPlace<'r>)
         ensures given { given_at self.new ≡ given_at self.old }
-        ensures others { controls_at self.new ≡ controls_at self.old }
+        ensures others { others_at self.new ≡ others_at self.old }
         ensures stopped { stopped_at self.new ≡ stopped_at self.old }
         ensures ended { ended_at self.new ≡ ended_at self.old ++ connection_of place.entry ∷ [] }
     {

@@ -1,9 +1,11 @@
 //! A gateway to issuers that connects at a socket's file.
 
-ghost use Rattle.std.specs.Prelude.{◌≡◌, is_ok, IfErr};
+ghost use Rattle.std.specs.Prelude.{ℕ, is_ok, IfErr};
 ghost use Rattle.acq_book.specs.Calls.{Looks};
 ghost use Rattle.acq_book.specs.Promise.{CountsFault};
 ghost use Rattle.acq_faults.specs.Faults.{IsOfListening};
+ghost use Rattle.acq_gateways.specs.Following.{GatewaysStay, LooksOn};
+ghost use Rattle.acq_gateways.specs.Told.{told_of};
 
 use crate::ending::Ending;
 use crate::journal::Journal;
@@ -13,17 +15,18 @@ use acq_book::{Book, BookFault};
 use acq_core::{Moment, Query};
 use acq_faults::{Fault, end_connection, write_fault_line};
 use acq_front::FrontFault;
-use acq_gateway::{Gateway, GatewayDesk};
+use acq_gateway::GatewayDesk;
+use acq_gateways::Gateways;
 use acq_host::Host;
 use acq_link::Sink;
-use mio::net::UnixListener;
+use mio::net::{UnixListener, UnixStream};
 use mio::{Interest, Registry, Token};
 use std::alloc::Global;
 use std::io::ErrorKind;
-use std::time;
+use std::{mem, time};
 
 /// A gateway to issuers that connects at a socket's file, one at a time: the next one waits until
-/// it is gone.
+/// it is gone. What passes over their sockets is in `Gateways`.
 #[derive(Drop)]
 pub(crate) struct GatewayServer {
     listener: UnixListener,
@@ -71,17 +74,17 @@ impl GatewayServer {
     }
 
     /// Whether a round finds something to do, though nothing comes.
-    pub(crate) fn is_ready(&self) -> bool {
-        match &self.open {
-            Some(open) => open.is_ready(),
-            None => self.may_come && !self.is_refused,
+    pub(crate) fn is_ready(&self, gateways: &Gateways<UnixStream>) -> bool {
+        match (&self.open, gateways.here()) {
+            (Some(open), Some(gateway)) => open.is_ready(gateway),
+            _ => self.may_come && !self.is_refused,
         }
     }
 
     /// The host took turns: there may be new rows.
     pub(crate) fn note_news(&mut self) {
         if let Some(open) = &mut self.open {
-            open.gateway.note_news();
+            open.has_news = true;
         }
     }
 
@@ -99,17 +102,20 @@ impl GatewayServer {
     pub(crate) fn take_in<T: time::Clock, W: LogTarget, F: Sink>(
         &mut self,
         alloc: Global,
+        gateways: &mut Gateways<UnixStream>,
         registry: &Registry,
         journal: &mut Journal<'_, T, W>,
         faults: &mut F,
-    ) {
+    )
+        ensures stays { GatewaysStay (told_of gateways.old) (told_of gateways.new) }
+    {
         if self.open.is_none() && self.may_come {
-            self.admit(alloc, registry, journal);
+            self.admit(alloc, gateways, registry, journal);
         }
-        let ended = match &mut self.open {
-            Some(open) => open.receive(),
-            None => return,
+        let Some(open) = &mut self.open else {
+            return;
         };
+        let ended = gateways.receive(&mut open.ready);
         self.end_by(ended, journal, faults);
     }
 
@@ -117,9 +123,12 @@ impl GatewayServer {
     fn admit<T: time::Clock, W: LogTarget>(
         &mut self,
         alloc: Global,
+        gateways: &mut Gateways<UnixStream>,
         registry: &Registry,
         journal: &mut Journal<'_, T, W>,
-    ) {
+    )
+        ensures stays { GatewaysStay (told_of gateways.old) (told_of gateways.new) }
+    {
         // One that can't be had now is tried again in a later round.
         let Ok(desk) = self.desk.share() else {
             self.is_refused = true;
@@ -139,48 +148,69 @@ impl GatewayServer {
             .register(&mut stream, Token(self.token), interest)
             .is_ok()
         {
-            let gateway = Gateway::connect(alloc, desk);
-            self.open = Some(OpenGateway::new(journal.gateway(), stream, gateway));
+            if gateways.connect(alloc, desk, stream) {
+                self.open = Some(OpenGateway::new(journal.gateway()));
+            }
         }
     }
 
     /// Looks in the book what it is to be told, and writes what can go.
     pub(crate) fn tell<B: Book + Drop, T: time::Clock, W: LogTarget, F: Sink>(
         &mut self,
+        gateways: &mut Gateways<UnixStream>,
         host: &mut Host<B>,
         moment: Moment,
         journal: &mut Journal<'_, T, W>,
         faults: &mut F,
     ) -> Result<(), BookFault>
+        ensures told { B.is_honest host.new → B.is_open host.old
+            → LooksOn (B.tables host.old) (told_of gateways.old) (told_of gateways.new) }
         ensures looks { Looks B.Book host.old host.new (is_ok result) }
         ensures store { CountsFault result (B.failures host.old) (B.failures host.new) }
     {
-        let Some(open) = &mut self.open else {
-            return Ok(());
-        };
-        let looked = open.gateway.look(host, moment);
-        self.send(journal, faults);
-        looked
+        self.pass_news(gateways);
+        match gateways.look(host, moment) {
+            Ok(()) => {
+                self.send(gateways, journal, faults);
+                Ok(())
+            }
+            Err(fault) => Err(fault),
+        }
+    }
+
+    /// Passes on that there may be new rows, if there may be.
+    fn pass_news(&mut self, gateways: &mut Gateways<UnixStream>)
+        ensures stays { GatewaysStay (told_of gateways.old) (told_of gateways.new) }
+    {
+        if let Some(open) = &mut self.open {
+            if mem::take(&mut open.has_news) {
+                gateways.note_news();
+            }
+        }
     }
 
     /// Writes what can go, and tells what it is told of rows that are missing.
     fn send<T: time::Clock, W: LogTarget, F: Sink>(
         &mut self,
+        gateways: &mut Gateways<UnixStream>,
         journal: &mut Journal<'_, T, W>,
         faults: &mut F,
-    ) {
+    )
+        ensures stays { GatewaysStay (told_of gateways.old) (told_of gateways.new) }
+    {
         let Some(open) = &mut self.open else {
             return;
         };
-        if let Some(rows) = open.gateway.take_missing() {
+        let missing = gateways.take_missing();
+        let ended = gateways.send(&mut open.ready);
+        if let Some(rows) = missing {
             let _ = write_fault_line(&Fault::RowsMissing(rows), faults);
             journal.rows_missing(open.name(), rows);
         }
-        let ended = open.send();
         self.end_by(ended, journal, faults);
     }
 
-    /// Parts with it where it ended.
+    /// Notes that it is gone, where it ended.
     fn end_by<T: time::Clock, W: LogTarget, F: Sink>(
         &mut self,
         ended: Option<Result<(), FrontFault>>,
@@ -190,12 +220,23 @@ impl GatewayServer {
         let Some(ended) = ended else {
             return;
         };
-        self.close(&ended, Ending::Own, journal);
+        self.note_end(&ended, Ending::Own, journal);
         let _ = end_connection(ended, faults);
     }
 
-    /// Parts with it, if one is connected.
+    /// Parts with it, if one is connected, since the host ends.
     pub(crate) fn close<T: time::Clock, W: LogTarget>(
+        &mut self,
+        gateways: &mut Gateways<UnixStream>,
+        journal: &mut Journal<'_, T, W>,
+    )
+        ensures stays { GatewaysStay (told_of gateways.old) (told_of gateways.new) }
+    {
+        self.note_end(&Ok(()), Ending::Stopped, journal);
+        gateways.part();
+    }
+
+    fn note_end<T: time::Clock, W: LogTarget>(
         &mut self,
         ended: &Result<(), FrontFault>,
         ending: Ending,
@@ -203,7 +244,6 @@ impl GatewayServer {
     ) {
         if let Some(open) = self.open.take() {
             journal.gateway_closed(open.name(), ended, ending);
-            open.disconnect();
         }
     }
 }

@@ -36,6 +36,7 @@ mod newcomers;
 mod open_control;
 mod open_gateway;
 mod open_places;
+mod others;
 mod parted;
 mod parting;
 mod patient_stream;

@@ -1,14 +1,14 @@
 //! What listens for connections that are served at once.
 
 ghost use Rattle.std.specs.Prelude.{IfErr, IfOk};
-ghost use Rattle.acq_controls.specs.Aside.{aside_of};
-ghost use Rattle.acq_controls.specs.Following.{HadNone};
 ghost use Rattle.acq_faults.specs.Faults.{IsOfListening};
+ghost use Rattle.acq_tcp.specs.Others.{OthersHadNone, beside_of};
 
 use crate::book_files::BookFiles;
 use crate::control_server::{CONTROLS, ControlServer};
 use crate::control_stream::ControlStream;
 use crate::gateway_server::GatewayServer;
+use crate::others::Others;
 use crate::sockets::Sockets;
 use acq_book::BookFault;
 use acq_controls::Controls;
@@ -48,7 +48,7 @@ pub(crate) struct Listening {
     /// Room for the numbers of the connections that one wait may wake.
     pub(crate) woken: Vec<u64>,
     pub(crate) control: Option<ControlServer>,
-    pub(crate) controls: Controls<ControlStream>,
+    pub(crate) others: Others,
     pub(crate) gateway: Option<GatewayServer>,
     pub(crate) book_files: BookFiles,
 }
@@ -63,13 +63,13 @@ impl Listening {
         sockets: Sockets,
     ) -> Result<Listening, Fault>
         ensures fault { IfErr result IsOfListening }
-        ensures none_came { IfOk result (λ it. HadNone (aside_of it.controls)) }
+        ensures none_came { IfOk result (λ it. OthersHadNone (beside_of it.others)) }
     {
         let at_once = asked.together.saturating_add(FIRST_TERMINAL);
         let book_files = BookFiles::at(files, alloc, asked.path.as_str())?;
         let events = Events::with_capacity(alloc, at_once)?;
         let woken = Vec::with_capacity(alloc, at_once)?;
-        let Ok(controls) = controls_at(alloc, &sockets.desk) else {
+        let Ok(others) = others_at(alloc, &sockets.desk) else {
             return Err(Fault::Memory);
         };
         let Ok((listener, poll)) = listener_at(net, asked.endpoint) else {
@@ -83,7 +83,7 @@ impl Listening {
                 events,
                 woken,
                 control,
-                controls,
+                others,
                 gateway,
                 book_files,
             }),
@@ -92,14 +92,15 @@ impl Listening {
     }
 }
 
-/// The places of control connections, and that of the host's own control lines.
-fn controls_at(alloc: Global, desk: &GatewayDesk) -> Result<Controls<ControlStream>, BookFault>
-    ensures { IfOk result (λ controls. HadNone (aside_of controls)) }
+/// The places of control connections, and that of the host's own control lines; and no gateway.
+fn others_at(alloc: Global, desk: &GatewayDesk) -> Result<Others, BookFault>
+    ensures { IfOk result (λ others. OthersHadNone (beside_of others)) }
 {
     let mut controls = Controls::new(alloc, CONTROLS + 1)?;
     let own = ControlStream::Desk(DeskStream::new(alloc, desk.share()?));
     controls.admit(OWN_LINES, own);
-    Ok(controls)
+    let others = Others::new(controls);
+    Ok(others)
 }
 
 /// Gateways to a listener, if there is one.

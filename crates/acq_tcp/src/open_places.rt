@@ -1,12 +1,15 @@
 //! The places of terminals, while they are served.
 
-ghost use Rattle.std.specs.Prelude.{ℕ, OnOk};
+ghost use Rattle.std.specs.Prelude.{◌≡◌, ℕ, OnOk};
 ghost use Rattle.acq_controls.specs.Aside.{aside_of};
-ghost use Rattle.acq_controls.specs.Following.{ControlsFollow, Stays};
+ghost use Rattle.acq_controls.specs.Following.{Stays};
 ghost use Rattle.acq_front.specs.Stops.{left_of};
+ghost use Rattle.acq_gateways.specs.Following.{GatewaysStay, LooksOn};
+ghost use Rattle.acq_gateways.specs.Told.{told_of};
 ghost use Rattle.acq_rounds.specs.Reaching.{ReachesBy};
 ghost use Rattle.acq_rounds.specs.Runs.{OthersGoOn};
 ghost use Rattle.acq_rounds.specs.Taking.{TellsFault};
+ghost use Rattle.acq_tcp.specs.Others.{OthersFollow, beside_of};
 ghost use Rattle.acq_tcp.specs.Rounds.{Looked};
 
 use crate::connection_name::ConnectionName;
@@ -18,6 +21,7 @@ use crate::held_reply::HeldReply;
 use crate::log_target::LogTarget;
 use crate::look::Look;
 use crate::newcomer::{Heading, Newcomer};
+use crate::others::Others;
 use crate::parted::Parted;
 use crate::parting::ends_in_bad_frame;
 use crate::places::Places;
@@ -31,10 +35,11 @@ use acq_book::{Book, BookFault};
 use acq_controls::Controls;
 use acq_faults::{end_connection, write_fault_line};
 use acq_front::{Clock, FrontFault};
+use acq_gateways::Gateways;
 use acq_host::Host;
 use acq_link::Sink;
 use acq_rounds::{Stage, Talk};
-use mio::net::TcpStream;
+use mio::net::{TcpStream, UnixStream};
 use std::alloc::Global;
 use std::fs::Files;
 use std::net::SocketAddr;
@@ -111,18 +116,25 @@ impl<'s, 'r, 'a, T: time::Clock + Files, W: LogTarget + Drop, F: Sink> OpenPlace
     }
 
     /// Parts with the gateway, since the host ends.
-    pub(crate) fn close_gateway(&mut self) {
-        self.server.close_gateway();
+    pub(crate) fn close_gateway(&mut self, gateways: &mut Gateways<UnixStream>)
+        ensures stays { GatewaysStay (told_of gateways.old) (told_of gateways.new) }
+    {
+        self.server.close_gateway(gateways);
     }
 
     /// Waits until there is something to do, for this time at most, if one is given, and not at all
     /// where there is already; and begins the next round. Returns whether there is one.
-    pub(crate) fn wait(&mut self, has_already: bool, at_most: Option<Duration>) -> bool {
+    pub(crate) fn wait(
+        &mut self,
+        gateways: &Gateways<UnixStream>,
+        has_already: bool,
+        at_most: Option<Duration>,
+    ) -> bool {
         let begins_to_stop = self.note_stop();
         if self.is_over || self.is_done() {
             return false;
         }
-        let longest = if has_already || begins_to_stop || self.has_ready() {
+        let longest = if has_already || begins_to_stop || self.has_ready(gateways) {
             Some(Duration::ZERO)
         } else {
             shorter(self.longest_wait(), at_most)
@@ -140,8 +152,8 @@ impl<'s, 'r, 'a, T: time::Clock + Files, W: LogTarget + Drop, F: Sink> OpenPlace
     }
 
     /// Whether a newcomer or a gateway has something to do, though nothing comes.
-    fn has_ready(&self) -> bool {
-        self.server.newcomers.has_ready() || self.server.has_gateway_ready()
+    fn has_ready(&self, gateways: &Gateways<UnixStream>) -> bool {
+        self.server.newcomers.has_ready() || self.server.has_gateway_ready(gateways)
     }
 
     /// Notes that the host was asked to end, if it was, and whether what is there is cut off.
@@ -414,14 +426,14 @@ impl<'s, 'r, 'a, T: time::Clock + Files, W: LogTarget + Drop, F: Sink> OpenPlace
     pub(crate) fn between<B: Book + Drop, C: Clock>(
         &mut self,
         alloc: Global,
-        controls: &mut Controls<ControlStream>,
+        others: &mut Others,
         host: &mut Host<B>,
         clock: &mut C,
     ) -> Result<(), BookFault>
         ensures reaches { B.is_honest host.new → B.is_open host.old
             → ReachesBy (B.tables host.old) (left_of B.Book host.new)
-            (OthersGoOn ControlsFollow (B.tables host.old)
-            (aside_of controls.old) (aside_of controls.new)) result }
+            (OthersGoOn OthersFollow (B.tables host.old)
+            (beside_of others.old) (beside_of others.new)) result }
         ensures stays_open { B.is_honest host.new → B.is_open host.old
             → OnOk result (B.is_open host.new) }
         ensures was_honest { B.is_honest host.new → B.is_honest host.old }
@@ -434,19 +446,23 @@ impl<'s, 'r, 'a, T: time::Clock + Files, W: LogTarget + Drop, F: Sink> OpenPlace
             now: self.time.get(),
             limits: self.server.limits,
         };
-        self.look(alloc, controls, host, clock)?;
+        self.look(alloc, others, host, clock)?;
         self.server
-            .give_rounds(controls, host, clock, time, self.faults)
+            .give_rounds(&mut others.controls, host, clock, time, self.faults)
     }
 
     /// Looks at the book where figures are to be told, and for a gateway.
     fn look<B: Book + Drop, C: Clock>(
         &mut self,
         alloc: Global,
-        controls: &Controls<ControlStream>,
+        others: &mut Others,
         host: &mut Host<B>,
         clock: &mut C,
     ) -> Result<(), BookFault>
+        ensures told { B.is_honest host.new → B.is_open host.old
+            → LooksOn (B.tables host.old) (told_of others.old.gateways)
+            (told_of others.new.gateways) }
+        ensures controls { aside_of others.new.controls ≡ aside_of others.old.controls }
         ensures looked { B.is_honest host.new → B.is_open host.old
             → Looked (B.tables host.old) (left_of B.Book host.new) }
         ensures stays_open { B.is_honest host.new → B.is_open host.old
@@ -457,8 +473,10 @@ impl<'s, 'r, 'a, T: time::Clock + Files, W: LogTarget + Drop, F: Sink> OpenPlace
             (B.is_honest host.new → B.is_open host.old → ⊥) }
     {
         let now = self.time.get();
-        self.server.look_at_book(alloc, controls, host, now)?;
-        self.server.tell_gateway(alloc, host, clock, self.faults)
+        self.server
+            .look_at_book(alloc, &others.controls, host, now)?;
+        self.server
+            .tell_gateway(alloc, &mut others.gateways, host, clock, self.faults)
     }
 
     /// Whether the open connections are looked at in this round.

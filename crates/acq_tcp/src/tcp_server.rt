@@ -2,14 +2,17 @@
 
 ghost use Rattle.std.specs.Prelude.{◌≡◌, ℕ, IfErr, IfOk, OnOk};
 ghost use Rattle.acq_controls.specs.Aside.{aside_of};
-ghost use Rattle.acq_controls.specs.Following.{ControlsFollow, HadNone, Stays};
+ghost use Rattle.acq_controls.specs.Following.{ControlsFollow, Stays};
 ghost use Rattle.acq_faults.specs.Faults.{IsOfListening, TellsStore};
 ghost use Rattle.acq_front.specs.Stops.{left_of};
+ghost use Rattle.acq_gateways.specs.Following.{GatewaysStay, LooksOn};
+ghost use Rattle.acq_gateways.specs.Told.{told_of};
 ghost use Rattle.acq_rounds.specs.Reaching.{ReachesBy};
 ghost use Rattle.acq_rounds.specs.Runs.{OthersGoOn};
 ghost use Rattle.acq_rounds.specs.Taking.{TellsFault};
+ghost use Rattle.acq_tcp.specs.Others.{OthersHadNone, beside_of};
 ghost use Rattle.acq_tcp.specs.Rounds.{Looked, of_looked};
-ghost use Rattle.acq_tcp.specs.Terminals.{controls_by};
+ghost use Rattle.acq_tcp.specs.Terminals.{others_by};
 
 use crate::addresses::Addresses;
 use crate::arrivals::Arrivals;
@@ -27,6 +30,7 @@ use crate::listening::{FIRST_TERMINAL, GATEWAY, LISTENER, Listening, OWN_LINES};
 use crate::log_target::LogTarget;
 use crate::newcomers::Newcomers;
 use crate::open_control::OpenControl;
+use crate::others::Others;
 use crate::round_time::RoundTime;
 use crate::sockets::Sockets;
 use crate::tcp_connections::PAUSE;
@@ -36,11 +40,12 @@ use acq_book::{Book, BookFault};
 use acq_controls::Controls;
 use acq_faults::{Fault, ListenOptions, Server};
 use acq_front::{Clock, Issuer};
+use acq_gateways::Gateways;
 use acq_host::Host;
 use acq_link::Sink;
 use acq_reports::ReportFault;
 use acq_rounds::{Past, serve};
-use mio::net::{TcpListener, TcpStream};
+use mio::net::{TcpListener, TcpStream, UnixStream};
 use mio::{Events, Interest, Poll, Token};
 use std::alloc::Global;
 use std::fs::Files;
@@ -77,11 +82,12 @@ pub struct TcpServer<'a, T, W> {
     pub(crate) newcomers: Newcomers,
     /// How many connections each address has.
     pub(crate) addresses: Addresses,
-    /// Control connections, where they can come, and what passes over them.
+    /// Control connections, where they can come, and a gateway to issuers, where one can.
     pub(crate) control: Option<ControlServer>,
-    pub(crate) controls: Controls<ControlStream>,
-    /// A gateway to issuers, where one can come, and the host's own control lines.
     pub(crate) gateway: Option<GatewayServer>,
+    /// What passes over them.
+    others: Others,
+    /// The host's own control lines.
     own_lines: OpenControl,
     /// When the host was asked to end, where that time is known.
     pub(crate) stopping: Option<Instant>,
@@ -107,7 +113,7 @@ impl<'a, T: time::Clock + Files, W: LogTarget + Drop> TcpServer<'a, T, W> {
         log: Option<HostLog<W>>,
     ) -> Result<TcpServer<'a, T, W>, Fault>
         ensures fault { IfErr result IsOfListening }
-        ensures none_came { IfOk result (λ server. HadNone (controls_by server)) }
+        ensures none_came { IfOk result (λ server. OthersHadNone (others_by server)) }
     {
         match Listening::begin(net, time, alloc, asked, sockets) {
             Ok(listening) => {
@@ -126,7 +132,7 @@ impl<'a, T: time::Clock + Files, W: LogTarget + Drop> TcpServer<'a, T, W> {
         time: &'a T,
         journal: Journal<'a, T, W>,
     ) -> TcpServer<'a, T, W>
-        ensures { controls_by result ≡ aside_of listening.controls }
+        ensures { others_by result ≡ beside_of listening.others }
     {
         TcpServer {
             listener: listening.listener,
@@ -143,8 +149,8 @@ impl<'a, T: time::Clock + Files, W: LogTarget + Drop> TcpServer<'a, T, W> {
             newcomers: Newcomers::new(alloc),
             addresses: Addresses::new(alloc, asked.from_one_address),
             control: listening.control,
-            controls: listening.controls,
             gateway: listening.gateway,
+            others: listening.others,
             own_lines: OpenControl::new(ConnectionName::Control(0), None),
             stopping: None,
             book_files: listening.book_files,
@@ -303,9 +309,11 @@ impl<'a, T: time::Clock + Files, W: LogTarget + Drop> TcpServer<'a, T, W> {
     }
 
     /// Parts with the gateway, since the host ends.
-    pub(crate) fn close_gateway(&mut self) {
+    pub(crate) fn close_gateway(&mut self, gateways: &mut Gateways<UnixStream>)
+        ensures stays { GatewaysStay (told_of gateways.old) (told_of gateways.new) }
+    {
         if let Some(gateway) = &mut self.gateway {
-            gateway.close(&Ok(()), Ending::Stopped, &mut self.journal);
+            gateway.close(gateways, &mut self.journal);
         }
     }
 
@@ -393,9 +401,9 @@ impl<'a, T: time::Clock + Files, W: LogTarget + Drop> TcpServer<'a, T, W> {
     }
 
     /// Whether a gateway has something to do, though nothing comes.
-    pub(crate) fn has_gateway_ready(&self) -> bool {
+    pub(crate) fn has_gateway_ready(&self, gateways: &Gateways<UnixStream>) -> bool {
         match &self.gateway {
-            Some(gateway) => gateway.is_ready(),
+            Some(gateway) => gateway.is_ready(gateways),
             None => false,
         }
     }
@@ -404,10 +412,13 @@ impl<'a, T: time::Clock + Files, W: LogTarget + Drop> TcpServer<'a, T, W> {
     pub(crate) fn tell_gateway<B: Book + Drop, C: Clock, F: Sink>(
         &mut self,
         alloc: Global,
+        gateways: &mut Gateways<UnixStream>,
         host: &mut Host<B>,
         clock: &mut C,
         faults: &mut F,
     ) -> Result<(), BookFault>
+        ensures told { B.is_honest host.new → B.is_open host.old
+            → LooksOn (B.tables host.old) (told_of gateways.old) (told_of gateways.new) }
         ensures looked { B.is_honest host.new → B.is_open host.old
             → Looked (B.tables host.old) (left_of B.Book host.new) }
         ensures stays_open { B.is_honest host.new → B.is_open host.old
@@ -420,9 +431,10 @@ impl<'a, T: time::Clock + Files, W: LogTarget + Drop> TcpServer<'a, T, W> {
         let Some(gateway) = &mut self.gateway else {
             return Ok(());
         };
-        gateway.take_in(alloc, self.poll.registry(), &mut self.journal, faults);
+        let journal = &mut self.journal;
+        gateway.take_in(alloc, gateways, self.poll.registry(), journal, faults);
         let moment = clock.now();
-        match gateway.tell(host, moment, &mut self.journal, faults) {
+        match gateway.tell(gateways, host, moment, journal, faults) {
             Ok(()) => Ok(()),
             Err(fault) => Err(fault),
         }
@@ -513,7 +525,7 @@ impl<'a, T: time::Clock + Files, W: LogTarget + Drop> TcpServer<'a, T, W> {
             (B.is_honest host.new → B.is_open host.old → ⊥) }
         ensures past { self.new.past ≡ self.old.past }
         ensures had { self.new.had ≡ self.old.had }
-        ensures controls { self.new.controls ≡ self.old.controls }
+        ensures others { self.new.others ≡ self.old.others }
     {
         if !self.journal.has_log() {
             return Ok(());
@@ -526,18 +538,18 @@ impl<'a, T: time::Clock + Files, W: LogTarget + Drop> TcpServer<'a, T, W> {
 }
 
 impl<T: time::Clock + Files, W: LogTarget + Drop> Server for TcpServer<'_, T, W> {
-    ghost use Rattle.acq_controls.specs.Aside.{Aside};
+    ghost use Rattle.acq_tcp.specs.Others.{Beside, OthersFollow};
     ghost use Rattle.acq_tcp.specs.Terminals.{had_by, many_by};
 
     ghost had = { had_by };
 
     ghost many = { many_by };
 
-    ghost aside = { Aside };
+    ghost aside = { Beside };
 
-    ghost others = { controls_by };
+    ghost others = { others_by };
 
-    ghost follow = { ControlsFollow };
+    ghost follow = { OthersFollow };
 
     fn serve_all<B: Book + Drop, C: Clock, I: Issuer, F: Sink>(
         &mut self,
@@ -553,16 +565,16 @@ impl<T: time::Clock + Files, W: LogTarget + Drop> Server for TcpServer<'_, T, W>
         }
         let past = mem::replace(&mut self.past, Past::new());
         let had = mem::replace(&mut self.had, Had::none());
-        let controls = mem::replace(&mut self.controls, Controls::without_places(alloc));
+        let others = mem::replace(&mut self.others, Others::without_places(alloc));
         let time = RoundTime::new();
         let mut issuer = TimedIssuer::new(alloc, issuer, &time, self.limits.answer);
-        let mut arrivals = Arrivals::new(alloc, self, faults, &time, controls, count);
+        let mut arrivals = Arrivals::new(alloc, self, faults, &time, others, count);
         let served = serve(alloc, host, clock, &mut issuer, &mut arrivals, u64::MAX);
         drop(issuer);
         let last = arrivals.end();
         self.past = past.then(&last.past);
         self.had = had.plus(&last.given);
-        self.controls = last.controls;
+        self.others = last.others;
         match served {
             Ok(()) if last.has_failed => Err(Fault::Read),
             Ok(()) => Ok(()),

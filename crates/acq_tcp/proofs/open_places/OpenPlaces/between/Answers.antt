@@ -1,7 +1,13 @@
 -- the looks, and then the rounds
+use Rattle.std.proofs.Common.{subst, sym}
 use Rattle.std.proofs.lemmas.Result.{err_from_is_err_and}
 use Rattle.acq_front.specs.Stops.{left_of}
-use Rattle.acq_controls.specs.Aside.{aside_of}
+use Rattle.acq_controls.specs.Aside.{Aside, aside_of}
+use Rattle.acq_controls.proofs.Staying.{GoesOn}
+use Rattle.acq_gateways.specs.Told.{told_of}
+use Rattle.acq_rounds.specs.Reaching.{ReachesBy, ReachesSome}
+use Rattle.acq_tcp.specs.Others.{beside_of}
+use Rattle.acq_tcp.proofs.Beside.{beside_by, beside_some}
 use Rattle.acq_tcp.proofs.Reaching.{looked_some, looked_then, tells_then}
 use Rattle.acq_tcp.proofs.open_places.OpenPlaces.between.Goals as goal
 
@@ -11,10 +17,17 @@ returns-clause-reaches g c = λ h o.
     let two = c.give_rounds.ensures in
     let was = two.was_honest h in
     let still = one.stays_open was o in
-    looked_then (g.B.Book.tables c.args.host.now) (g.B.Book.tables c.look.new.host)
-    (left_of g.B.Book c.give_rounds.new.host) (aside_of c.args.controls.now)
-    (aside_of c.give_rounds.new.controls) c.give_rounds.result
-    ((one.looked was o).tables still) (two.reaches h still)
+    let old = g.B.Book.tables c.args.host.now in
+    let left = left_of g.B.Book c.give_rounds.new.host in
+    let after = aside_of c.give_rounds.new.controls in
+    let r = c.give_rounds.result in
+    beside_by old left (beside_of c.args.others.now)
+    (record { controls = after; gateways = told_of c.look.new.others.gateways })
+    (one.told was o) r
+    (subst (λ (a : Aside). ReachesBy old left (GoesOn old a after) r) one.controls
+    (looked_then old (g.B.Book.tables c.look.new.host) left
+    (aside_of c.look.new.others.controls) after r ((one.looked was o).tables still)
+    (two.reaches h still)))
 
 pub returns-clause-store : goal.returns-clause-store
 returns-clause-store g c =
@@ -27,7 +40,13 @@ returns-clause-store g c =
 
 pub returns-in_err-look-clause-reaches : goal.returns-in_err-look-clause-reaches
 returns-in_err-look-clause-reaches g c h o =
+    let one = c.in_err-look.ensures in
     let p = err_from_is_err_and c.from_residual.result c.from_residual.ensures.1 in
+    let old = g.B.Book.tables c.args.host.now in
+    let left = left_of g.B.Book c.look.new.host in
+    let before = aside_of c.args.others.now.controls in
     rw p.1
-    (looked_some (g.B.Book.tables c.args.host.now) (left_of g.B.Book c.look.new.host)
-    (aside_of c.args.controls.now) (c.in_err-look.ensures.looked h o))
+    (beside_some old left (beside_of c.args.others.now) (beside_of c.look.new.others)
+    (one.told h o)
+    (subst (λ (a : Aside). ReachesSome old left (GoesOn old before a)) (sym one.controls)
+    (looked_some old left before (one.looked h o))))

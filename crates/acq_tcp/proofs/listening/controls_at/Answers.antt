@@ -1,6 +1,0 @@
--- the host's own lines are among those to which none came
-use Rattle.std.proofs.Common.{[]}
-use Rattle.acq_tcp.proofs.listening.controls_at.Goals as goal
-
-pub returns : goal.returns
-returns c = λ t. c.admit.ensures.stays t [] (c.in_ok-controls.ensures t)
