@@ -212,8 +212,12 @@ module _ (first low high : ℕ) where
       text.overlapping_text
       ends_row _ (ask.plain has.schema.0) (ask.unlisted has.schema.0) rows shown it.filter
       it.project is_sought
-      (λ x. rw (at_most_test first x.low, at_most_test low x.high, at_most_test x.low high, and_true)
-      refl) it.order it.limit range_out
+      (λ x. rw (
+        at_most_test first x.low,
+        at_most_test low x.high,
+        at_most_test x.low high,
+        and_true,
+      ) refl) it.order it.limit range_out
       (λ x. refl) (ask.is has.schema.0) in
       least_is t.ranges rows has.rising reach
       (first_element NotAbove (filter is_sought t.ranges) all.0 range_cells rows all.1

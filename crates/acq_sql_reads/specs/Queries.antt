@@ -52,7 +52,8 @@ nearest_query =
 abbrev pub overlapping_query : Query
 overlapping_query =
     table_query 5
-    (at_most (param 0) (column 0) ∷ at_most (param 1) (column 2) ∷ at_most (column 0) (param 2) ∷ [])
+    (at_most (param 0) (column 0) ∷ at_most (param 1) (column 2)
+    ∷ at_most (column 0) (param 2) ∷ [])
     None range_columns ((column 0, rising) ∷ []) one
 
 abbrev pub range_count_query : Query

@@ -77,8 +77,8 @@ pub fn overlapping<S: Alter>(
     overlapping_from(conn, alloc, first, low, high)
 }
 
-/// A low at or above which each range begins that reaches up to a number: that of the nearest one at
-/// or below the number, since those before it end below. So no look-up passes over these.
+/// A low at or above which each range begins that reaches up to a number: that of the nearest one
+/// at or below the number, since those before it end below. So no look-up passes over these.
 fn first_low<S: Alter>(conn: &mut Connection<S>, number: u32) -> Result<u32, Error>
     ensures answers { HasCleanDisk (state S.Store conn.new) → (t : Tables)
         → Holds (state S.Store conn.old).now t → are_apart t.ranges ≡ true
@@ -101,8 +101,8 @@ fn low_of(row: &Row) -> Result<u32, Error>
     row.get(0)
 }
 
-/// Of the ranges that overlap these ends, the one of least low. None that reaches up to the lower end
-/// begins below the first.
+/// Of the ranges that overlap these ends, the one of least low. None that reaches up to the lower
+/// end begins below the first.
 fn overlapping_from<S: Alter>(
     conn: &mut Connection<S>,
     alloc: Global,
