@@ -3,7 +3,7 @@
 -- `now` stands for the moment at which the line is taken.
 use Rattle.std.specs.Prelude.{◌≡◌, ◌≢◌, ◌==◌, ◌&&◌, ◌+◌, ◌-◌, ◌<◌, ◌≤◌, ℕ, nat_eq, Bool}
 use Rattle.std.specs.Prelude.{List, [], ◌∷◌, ◌++◌, codes, drop, take, length, option_map, Option}
-use Rattle.std.specs.Prelude.{Some, None, Ok, if◌then◌else◌}
+use Rattle.std.specs.Prelude.{Some, None, Ok, true, false, if◌then◌else◌}
 use Rattle.std.specs.List.{ends_with, position, starts_with}
 use Rattle.std.specs.Fmt.{decimal}
 use Rattle.std.specs.Borrow.{Bor}
