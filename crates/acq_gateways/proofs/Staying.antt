@@ -3,7 +3,7 @@ use Rattle.std.proofs.Common.{◌≡◌, ◌∙◌, ◌++◌, ◌∷◌, ◌+◌
 use Rattle.std.proofs.Common.{arith, length, length-append, Option, Some, None}
 use Rattle.std.specs.Prelude.{IfSome}
 use Rattle.std.specs.List.{AllByRecursion}
-use Rattle.acq_core.specs.Tables.{Tables, tables_after}
+use Rattle.acq_core.specs.Tables.{Tables}
 use Rattle.acq_gateway.specs.declared.gateway.Gateway.{Gateway}
 use Rattle.acq_gateway.specs.Telling.{IsNew}
 use Rattle.acq_rounds.specs.Acts.{Connection}

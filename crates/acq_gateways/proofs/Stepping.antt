@@ -4,7 +4,7 @@ use Rattle.std.proofs.Common.{append-nil, append_assoc, drop, take}
 use Rattle.acq_core.specs.Tables.{Tables, tables_after}
 use Rattle.acq_soundness.proofs.Runs.{tables_after-append}
 use Rattle.acq_gateway.specs.declared.gateway.Gateway.{Gateway}
-use Rattle.acq_gateway.specs.Telling.{IsHeld, IsNew, Stays, Takes, Tells, bad_lines, unsent_of}
+use Rattle.acq_gateway.specs.Telling.{IsHeld, Stays, Takes, Tells, bad_lines, unsent_of}
 use Rattle.acq_gateway_stream.specs.Stream as stream
 use Rattle.acq_gateway_stream.specs.Stream.{AreSteps, IsStep, behind, wrote_by}
 use Rattle.std.specs.List.{concat}

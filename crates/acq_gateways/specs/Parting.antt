@@ -1,5 +1,5 @@
 -- A gateway that went.
-use Rattle.std.specs.Prelude.{◌≡◌, ℕ, List, [], ◌∷◌, ◌++◌, None}
+use Rattle.std.specs.Prelude.{◌≡◌, ℕ, List, [], ◌∷◌, ◌++◌}
 use Rattle.acq_rounds.specs.Acts.{Connection}
 use Rattle.acq_rounds.specs.declared.stage.Stage.TheVariants.{Listening}
 use Rattle.acq_gateways.specs.Told.{Open, Told}

@@ -7,7 +7,7 @@ use Rattle.acq_front.specs.Stops.{Left}
 use Rattle.acq_controls.proofs.Staying.{GoesOn}
 use Rattle.acq_gateways.proofs.Staying.{follow_more}
 use Rattle.acq_gateways.specs.Following.{LooksOn}
-use Rattle.acq_rounds.specs.Reaching.{Reaches, ReachesBy, ReachesSome}
+use Rattle.acq_rounds.specs.Reaching.{ReachesBy, ReachesSome}
 use Rattle.acq_rounds.specs.Runs.{Between, OthersGoOn}
 use Rattle.acq_tcp.specs.Others.{Beside, OthersFollow}
 

@@ -198,19 +198,29 @@ impl GatewayServer {
     )
         ensures stays { GatewaysStay (told_of gateways.old) (told_of gateways.new) }
     {
+        let missing = gateways.take_missing();
+        self.note_missing(missing, journal, faults);
         let Some(open) = &mut self.open else {
             return;
         };
-        let missing = gateways.take_missing();
         let ended = gateways.send(&mut open.ready);
-        if let Some(rows) = missing {
-            let _ = write_fault_line(&Fault::RowsMissing(rows), faults);
-            journal.rows_missing(open.name(), rows);
-        }
         self.end_by(ended, journal, faults);
     }
 
-    /// Notes that it is gone, where it ended.
+    /// Tells that it knows of more rows than these, which are all, if it does.
+    fn note_missing<T: time::Clock, W: LogTarget, F: Sink>(
+        &self,
+        missing: Option<u64>,
+        journal: &mut Journal<'_, T, W>,
+        faults: &mut F,
+    ) {
+        if let (Some(open), Some(rows)) = (&self.open, missing) {
+            let _ = write_fault_line(&Fault::RowsMissing(rows), faults);
+            journal.rows_missing(open.name(), rows);
+        }
+    }
+
+    /// Tells how it ended, where it did.
     fn end_by<T: time::Clock, W: LogTarget, F: Sink>(
         &mut self,
         ended: Option<Result<(), FrontFault>>,
@@ -236,6 +246,7 @@ impl GatewayServer {
         gateways.part();
     }
 
+    /// Notes that it is gone, if one was connected.
     fn note_end<T: time::Clock, W: LogTarget>(
         &mut self,
         ended: &Result<(), FrontFault>,
