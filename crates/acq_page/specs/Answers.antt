@@ -43,4 +43,4 @@ abbrev pub IsReplyTo : Request → HostSaid → Option HttpDate → List ℕ →
 IsReplyTo request said date reply =
     (body : List ℕ) × IsBody request.asked said body
     × (reply ≡ head_of (status_of request.asked said) (kind_of request.asked said)
-      (length body) date ++ (if request.with_body then body else []))
+    (length body) date ++ (if request.with_body then body else []))

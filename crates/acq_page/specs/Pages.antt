@@ -1,5 +1,6 @@
 -- Pages: pieces in their order, of which a text stands escaped.
-use Rattle.std.specs.Prelude.{◌==◌, ◌&&◌, ℕ, Bool, nat_le, List, [], ◌∷◌, codes, flat_map}
+use Rattle.std.specs.Prelude.{◌==◌, ◌&&◌, ◌||◌, ℕ, Bool, not, nat_le, List, [], ◌∷◌, codes}
+use Rattle.std.specs.Prelude.{flat_map}
 use Rattle.std.specs.Prelude.{if◌then◌else◌}
 use Rattle.std.specs.Fmt.{decimal}
 use Rattle.acq_page.specs.declared.piece.Piece.{Piece}
@@ -31,3 +32,7 @@ spelled (Number number) = decimal number
 
 abbrev pub page_of : List Piece → List ℕ
 page_of pieces = flat_map spelled pieces
+
+-- a byte that opens or ends no tag, and no value of one
+abbrev pub opens_nothing : ℕ → Bool
+opens_nothing byte = not (byte == 60 || byte == 62 || byte == 34 || byte == 39)

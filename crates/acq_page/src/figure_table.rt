@@ -18,22 +18,28 @@ const WORDS: [(&str, &str); 20] = [
     ("connections_total", "Connections taken in"),
     ("events_total", "Messages answered"),
     ("lines_total", "Control lines answered"),
-    ("refused_frames_total", "Connections that ended for a bad frame"),
+    (
+        "refused_frames_total",
+        "Connections that ended for a bad frame",
+    ),
     ("log_lines_lost_total", "Lines of the log lost"),
     ("gateways", "Gateways connected"),
-    ("rows_missing_total", "Times that a gateway asked for rows that aren't there"),
+    (
+        "rows_missing_total",
+        "Times that a gateway asked for rows that aren't there",
+    ),
     ("last_event_age_seconds", "Seconds since the last message"),
-    ("oldest_pending_age_seconds", "Seconds that the oldest has waited"),
+    (
+        "oldest_pending_age_seconds",
+        "Seconds that the oldest has waited",
+    ),
     ("book_bytes", "Bytes of the book's file"),
     ("wal_bytes", "Bytes of its WAL file"),
 ];
 
 /// Puts each figure of a status that is not shown elsewhere.
-pub(crate) fn put_figures<'a>(
-    html: &mut Html<'a>,
-    lines: &[&'a [u8]],
-) -> Result<(), AllocError> {
-    html.words("<h2>All figures</h2><table><tbody>")?;
+pub(crate) fn put_figures<'a>(html: &mut Html<'a>, lines: &[&'a [u8]]) -> Result<(), AllocError> {
+    html.words("<h2>All figures</h2><table class=\"few\"><tbody>")?;
     for line in lines.iter() {
         if let Some((key, value)) = cut_at(line, b" ") {
             if !is_elsewhere(key) {

@@ -113,9 +113,9 @@ pub(crate) fn cut_at<'a>(text: &'a [u8], mark: &[u8]) -> Option<(&'a [u8], &'a [
 fn rest_behind<'a>(text: &'a [u8], mark: &[u8]) -> Option<&'a [u8]>
     ensures { IfSome result (λ rest. text.entry.now ≡ mark.now ++ rest.now) }
 {
-    if text.len() >= mark.len() && &text[..mark.len()] == mark {
-        Some(&text[mark.len()..])
-    } else {
-        None
+    if text.len() < mark.len() {
+        return None;
     }
+    let (front, rest) = text.split_at(mark.len());
+    if front == mark { Some(rest) } else { None }
 }

@@ -11,7 +11,8 @@ const TOP: &str = "<!DOCTYPE html>\n<html lang=\"en\"><head><meta charset=\"utf-
 /// How it looks: plain, and dark where the reader's screen is.
 const STYLE: &str = "<style>\
     :root{color-scheme:light dark;--line:#d8dcd9;--soft:#5d6661;--bar:#7fa08f;--alarm:#a8401f}\
-    @media(prefers-color-scheme:dark){:root{--line:#3a403d;--soft:#a3aca7;--bar:#5f8070;--alarm:#ec9a7c}}\
+    @media(prefers-color-scheme:dark){\
+    :root{--line:#3a403d;--soft:#a3aca7;--bar:#5f8070;--alarm:#ec9a7c}}\
     body{margin:0;font:15px/1.5 system-ui,sans-serif}\
     main{max-width:64rem;margin:0 auto;padding:1.5rem}\
     h1{font-size:1.4rem;font-weight:600;margin:0}\
@@ -24,9 +25,9 @@ const STYLE: &str = "<style>\
     text-align:left;font-weight:400;vertical-align:baseline}\
     thead th{color:var(--soft);font-size:.85rem}\
     .n{text-align:right;font-variant-numeric:tabular-nums;white-space:nowrap}\
-    .b{width:45%}.b i{display:block;height:.7rem;min-width:1px;background:var(--bar)}\
+    .b{width:45%}.b i{display:block;height:.7rem;background:var(--bar)}\
     .two{display:grid;grid-template-columns:repeat(auto-fit,minmax(20rem,1fr));gap:0 2.5rem}\
-    .wide{overflow-x:auto}</style></head><body>";
+    .wide{overflow-x:auto}.few{max-width:32rem}</style></head><body>";
 
 pub(crate) fn put_top(html: &mut Html<'_>) -> Result<(), AllocError> {
     html.words(TOP)?;

@@ -1,6 +1,5 @@
 //! Pages that are being made.
 
-
 use crate::piece::Piece;
 use std::alloc::{AllocError, Global};
 

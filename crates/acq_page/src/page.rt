@@ -34,7 +34,13 @@ pub(crate) fn page(alloc: Global, status: &[u8], said: &HostSaid) -> Result<Cont
     let mut html = Html::new(alloc);
     put_top(&mut html)?;
     put_summary(alloc, &mut html, lines.as_slice())?;
-    put_tables(alloc, &mut html, lines.as_slice(), waiting.as_slice(), sums.as_slice())?;
+    put_tables(
+        alloc,
+        &mut html,
+        lines.as_slice(),
+        waiting.as_slice(),
+        sums.as_slice(),
+    )?;
     put_replies(alloc, &mut html, lines.as_slice(), metrics.as_slice())?;
     put_figures(&mut html, lines.as_slice())?;
     html.words("</main>")?;

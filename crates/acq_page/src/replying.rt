@@ -1,6 +1,6 @@
 //! Replies to requests.
 
-ghost use Rattle.std.specs.Prelude.{◌≡◌, IfOk};
+ghost use Rattle.std.specs.Prelude.{◌≡◌, ◌++◌, [], IfOk, OnOk, if◌then◌else◌};
 ghost use Rattle.acq_page.specs.Answers.{IsBody, IsReplyTo, kind_of, status_of};
 
 use crate::asked::Asked;
@@ -25,18 +25,24 @@ pub fn reply_to(
     ensures { IfOk result (λ reply. IsReplyTo request said.now date reply.items) }
 {
     let content = content_for(alloc, request.asked, said)?;
+    let body = content.body.as_slice();
     let mut reply = Vec::new(alloc);
-    put_head(
-        &mut reply,
-        content.status,
-        content.kind,
-        content.body.len(),
-        date,
-    )?;
-    if request.with_body {
-        reply.extend_from_slice(content.body.as_slice())?;
-    }
+    let length = body.len();
+    put_head(&mut reply, content.status, content.kind, length, date)?;
+    put_body(&mut reply, body, request.with_body)?;
     Ok(reply)
+}
+
+/// Puts a body behind its head, unless it was asked for without.
+fn put_body(reply: &mut Vec<u8>, body: &[u8], with_body: bool) -> Result<(), AllocError>
+    ensures { OnOk result (reply.new.items
+        ≡ reply.old.items ++ (if with_body then body.now else [])) }
+{
+    if with_body {
+        reply.extend_from_slice(body)
+    } else {
+        Ok(())
+    }
 }
 
 /// What is said to a request.

@@ -9,7 +9,7 @@ pub(crate) const MOST_LINES: usize = 101;
 
 /// What stands above the sums.
 const HEADINGS: &str = "<h2>Sums of the day by currency, in minor units</h2>\
-    <div class=\"wide\"><table><thead><tr><th>Currency</th>\
+    <div class=\"wide\"><table><thead><tr><th class=\"n\">Currency</th>\
     <th class=\"n\">Credits</th><th class=\"n\">amount</th>\
     <th class=\"n\">reversed</th><th class=\"n\">amount</th>\
     <th class=\"n\">Debits</th><th class=\"n\">amount</th>\
@@ -17,10 +17,7 @@ const HEADINGS: &str = "<h2>Sums of the day by currency, in minor units</h2>\
     <th class=\"n\">Owed to merchants</th></tr></thead><tbody>";
 
 /// Puts the sums of each currency, in records behind one with the columns' names.
-pub(crate) fn put_sums<'a>(
-    html: &mut Html<'a>,
-    rows: &'a [ByteRecord],
-) -> Result<(), AllocError> {
+pub(crate) fn put_sums<'a>(html: &mut Html<'a>, rows: &'a [ByteRecord]) -> Result<(), AllocError> {
     if rows.len() < 2 {
         return Ok(());
     }

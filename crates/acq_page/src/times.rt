@@ -12,12 +12,7 @@ pub(crate) fn put_times<'a>(
     html: &mut Html<'a>,
     lines: &[&'a [u8]],
 ) -> Result<(), AllocError> {
-    let buckets = counted(
-        alloc,
-        lines,
-        b"acqd_reply_seconds_bucket{le=\"",
-        b"\"} ",
-    )?;
+    let buckets = counted(alloc, lines, b"acqd_reply_seconds_bucket{le=\"", b"\"} ")?;
     if buckets.is_empty() {
         return Ok(());
     }

@@ -15,7 +15,7 @@ pub(crate) fn put_waiting<'a>(
     lines: &[&'a [u8]],
     rows: &'a [ByteRecord],
 ) -> Result<(), AllocError> {
-    html.words("<h2>Waiting for their issuer</h2><table><tbody>")?;
+    html.words("<h2>Waiting for their issuer</h2><table class=\"few\"><tbody>")?;
     for day in counted(alloc, lines, b"pending.", b" ")? {
         html.words("<tr><th>")?;
         html.text(day.name)?;
@@ -32,8 +32,8 @@ fn put_named<'a>(html: &mut Html<'a>, rows: &'a [ByteRecord]) -> Result<(), Allo
     if rows.is_empty() {
         return Ok(());
     }
-    html.words("<p class=\"soft\">The first of them</p><table><thead><tr><th>Merchant</th>")?;
-    html.words("<th>Reference</th></tr></thead><tbody>")?;
+    html.words("<p class=\"soft\">The first of them</p><table class=\"few\"><thead>")?;
+    html.words("<tr><th>Merchant</th><th>Reference</th></tr></thead><tbody>")?;
     for row in rows.iter() {
         html.words("<tr><td>")?;
         html.text(row.get(2).unwrap_or(b""))?;

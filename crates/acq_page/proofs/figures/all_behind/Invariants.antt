@@ -7,5 +7,5 @@ abbrev pub invariant-loop-line : goal.invariant-loop-line
 invariant-loop-line l =
     all_behind l.beginning (map {A = Bor (List ℕ)} {B = List ℕ} (λ line. line.now) l.lines)
     ≡ map {A = Bor (List ℕ)} {B = List ℕ} (λ rest. rest.now) l.found.items
-      ++ all_behind l.beginning
-         (map {A = Bor (List ℕ)} {B = List ℕ} (λ line. line.now) (drop l.line-index l.lines))
+    ++ all_behind l.beginning
+    (map {A = Bor (List ℕ)} {B = List ℕ} (λ line. line.now) (drop l.line-index l.lines))

@@ -7,4 +7,4 @@ abbrev pub invariant-loop-line : goal.invariant-loop-line
 invariant-loop-line l =
     first_behind l.beginning (map {A = Bor (List ℕ)} {B = List ℕ} (λ line. line.now) l.lines)
     ≡ first_behind l.beginning
-      (map {A = Bor (List ℕ)} {B = List ℕ} (λ line. line.now) (drop l.line-index l.lines))
+    (map {A = Bor (List ℕ)} {B = List ℕ} (λ line. line.now) (drop l.line-index l.lines))
