@@ -5,7 +5,7 @@ use crate::html::Html;
 use std::alloc::AllocError;
 
 /// What the figures of a status are, in words.
-const WORDS: [(&str, &str); 20] = [
+const WORDS: [(&str, &str); 23] = [
     ("version", "Version"),
     ("day", "Business day"),
     ("limit", "Messages of a merchant that a day admits"),
@@ -21,6 +21,18 @@ const WORDS: [(&str, &str); 20] = [
     (
         "refused_frames_total",
         "Connections that ended for a bad frame",
+    ),
+    (
+        "unanswered_unserved_total",
+        "Messages without a reply: not served",
+    ),
+    (
+        "unanswered_waiting_total",
+        "the same: repeats of one that waits",
+    ),
+    (
+        "unanswered_late_total",
+        "the same: reversed before the answer",
     ),
     ("log_lines_lost_total", "Lines of the log lost"),
     ("gateways", "Gateways connected"),

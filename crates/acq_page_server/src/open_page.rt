@@ -23,6 +23,8 @@ const MOST_LET_GO: usize = 64;
 pub(crate) struct OpenPage {
     stream: TcpStream,
     connection: HttpConnection,
+    /// How many came before it.
+    number: u64,
     since: Instant,
     /// Whether its reply is made, and whether it is told that nothing comes behind that.
     is_answered: bool,
@@ -30,20 +32,21 @@ pub(crate) struct OpenPage {
 }
 
 impl OpenPage {
-    /// One that came now.
-    pub(crate) fn new(alloc: Global, stream: TcpStream, now: Instant) -> OpenPage {
+    /// One that came now, behind so many others.
+    pub(crate) fn new(alloc: Global, stream: TcpStream, now: Instant, number: u64) -> OpenPage {
         OpenPage {
             stream,
             connection: HttpConnection::new(alloc),
+            number,
             since: now,
             is_answered: false,
             is_shut: false,
         }
     }
 
-    /// When it came.
-    pub(crate) fn since(&self) -> Instant {
-        self.since
+    /// How many came before it.
+    pub(crate) fn number(&self) -> u64 {
+        self.number
     }
 
     /// How much of its time is left.

@@ -32,11 +32,11 @@ impl PagePlaces {
             let Some(page) = taken else {
                 return place;
             };
-            let since = page.since();
+            let number = page.number();
             match oldest {
-                Some(before) if before <= since => {}
+                Some(before) if before <= number => {}
                 _ => {
-                    oldest = Some(since);
+                    oldest = Some(number);
                     next = place;
                 }
             }

@@ -28,6 +28,8 @@ pub struct PageServer {
     events: Events,
     places: PagePlaces,
     last: LastSaid,
+    /// How many connections came.
+    came: u64,
     /// Whether connections may be there that weren't taken yet.
     may_come: bool,
 }
@@ -45,6 +47,7 @@ impl PageServer {
             events: Events::with_capacity(alloc, PLACES + 1)?,
             places: PagePlaces::new(alloc)?,
             last: LastSaid::new(alloc),
+            came: 0,
             may_come: true,
         })
     }
@@ -120,7 +123,9 @@ impl PageServer {
             Token(place.saturating_add(LISTENER + 1)),
             Interest::READABLE | Interest::WRITABLE,
         )?;
-        self.places.put(place, OpenPage::new(alloc, stream, now));
+        self.places
+            .put(place, OpenPage::new(alloc, stream, now, self.came));
+        self.came = self.came.saturating_add(1);
         Ok(())
     }
 

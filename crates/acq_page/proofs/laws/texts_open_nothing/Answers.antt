@@ -12,8 +12,11 @@ bytes_open_nothing byte = grind (arith, nat_tests)
 open_nothing : (text : List ℕ) → list_all opens_nothing (escaped text) ≡ true
 open_nothing [] = refl
 open_nothing (byte ∷ text) =
-    rw (list_all-append opens_nothing (escaped_byte byte) (escaped text), bytes_open_nothing byte,
-    open_nothing text) refl
+    rw (
+      list_all-append opens_nothing (escaped_byte byte) (escaped text),
+      bytes_open_nothing byte,
+      open_nothing text,
+    ) refl
 
 pub returns : goal.returns
 returns c = open_nothing

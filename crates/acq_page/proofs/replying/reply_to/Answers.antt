@@ -17,12 +17,11 @@ joined head s t k l n empty headed replied front body with_body e1 e2 e3 e4 e5 e
 
 pub returns : goal.returns
 returns c =
-    let content = c.in_ok-content.content in
-    (
+    let content = c.in_ok-content.content in (
       content.body.items,
       c.in_ok-content.ensures.body,
       joined (λ s k n. head_of s k n c.args.date) content.status _ content.kind _ _ _ _ _ _ _
-        c.args.request.with_body c.new-reply.ensures.items c.in_ok-put_head.ensures
-        c.in_ok-put_body.ensures c.in_ok-content.ensures.status c.in_ok-content.ensures.kind
-        refl c.as_slice-body.ensures.value
+          c.args.request.with_body c.new-reply.ensures.items c.in_ok-put_head.ensures
+          c.in_ok-put_body.ensures c.in_ok-content.ensures.status c.in_ok-content.ensures.kind
+          refl c.as_slice-body.ensures.value,
     )
