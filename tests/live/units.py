@@ -22,7 +22,7 @@ from terminal import (
 
 HERE = os.path.dirname(os.path.abspath(__file__))
 TOP = os.path.dirname(os.path.dirname(HERE))
-UNITS = ("acqd.service", "machines/acqd.service")
+UNITS = ("acqd.service", "acqd-page.service", "machines/acqd.service")
 # As `systemd-analyze security` counts, from 0 to 10.
 EXPOSURE = 2.0
 

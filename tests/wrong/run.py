@@ -54,6 +54,12 @@ SCRIPTS = [
     ]),
     ("logs a_restart times", [("log time=20", "log")]),
     ("figures connections", [("reply 1", "an echo"), ("lost 2", "a sale")]),
+    ("page figures metrics", [
+        ("text status", "figures"),
+        ("text metrics", "metrics"),
+        ("reply 1", "a sale"),
+    ]),
+    ("page beside_hostile_ones 20", [("reply 3", "an echo"), ("lost 3", "an echo")]),
     ("together 6", [("reply 4", "replies to terminal"), ("lost 5", "replies to terminal")]),
     ("clients a_reset another_address", [("reply 1", "terminals"), ("lost 1", "terminals")]),
     ("control tell_answers", [("text enrol,TOLD", "lines that are told")]),

@@ -39,7 +39,8 @@ use Rattle.acq_faults.specs.declared.report_kind.ReportKind.{ReportKind}
 use Rattle.acq_faults.specs.declared.report_kind.ReportKind.TheVariants as kinds
 use Rattle.acq_program.specs.declared.usage_fault.UsageFault.{UsageFault}
 use Rattle.acq_program.specs.declared.usage_fault.UsageFault.TheVariants.{Words, BadValue}
-use Rattle.acq_program.specs.Options.{AddressIs, AnswerWithinIs, CardEndsIfThere, CountIs}
+use Rattle.acq_program.specs.Options.{AddressIs, AnswerWithinIs, CardEndsIfThere, ControlIs}
+use Rattle.acq_program.specs.Options.{CountIs}
 use Rattle.acq_program.specs.Options.{DayIfThere, DayIs, FileIs, FrameWithinIs, FromOneAddressIs}
 use Rattle.acq_program.specs.Options.{GatewayWithinIs, GroupIs, IdleIs, LastDayIfThere, LimitIs}
 use Rattle.acq_program.specs.Options.{ListFileIs, ListingIs, LogBytesIs, MadeFormIs, MerchantIs}
@@ -485,6 +486,18 @@ IsStatus path read = read ≡ Ok (Status path)
 abbrev pub AsksStatus : OptionTexts → Result Action OptionName → Type 0
 AsksStatus texts = Then (FileIs texts) IsStatus
 
+-- the page of the host at this path, at this port
+abbrev pub IsPage : String Global → ℕ → Result Action OptionName → Type 0
+IsPage control port read =
+    read ≡ Ok (actions.Page (record { control = control; port = port }))
+
+abbrev pub PageOf : OptionTexts → String Global → Result Action OptionName → Type 0
+PageOf texts control = Then (PortIs texts) (IsPage control)
+
+-- what `page` is asked for: the control socket's path first, then the port
+abbrev pub AsksPage : OptionTexts → Result Action OptionName → Type 0
+AsksPage texts = Then (ControlIs texts) (PageOf texts)
+
 -- what the host would say over this book, or over a new one behind these events
 abbrev pub IsExplained
     : OptionTexts → ℕ → ℕ → Option ℕ → Result ExplainOptions OptionName → Type 0
@@ -566,6 +579,7 @@ Asks (Some command) asked =
     ⊎ Names (codes "statement") AsksStatement command asked
     ⊎ Names (codes "find") AsksFind command asked
     ⊎ Names (codes "ranges") AsksRanges command asked
+    ⊎ Names (codes "page") AsksPage command asked
 
 -- nothing is wrong with the words by clap's rules, and they ask for this
 abbrev pub AsksFor : List Text → Result Action OptionName → Type 0

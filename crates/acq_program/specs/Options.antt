@@ -296,6 +296,11 @@ abbrev pub ListFileIs : OptionTexts → Result (String Global) OptionName → Ty
 ListFileIs texts (Ok path) = texts.set ≡ Some (string_bytes path)
 ListFileIs texts (Err name) = (name ≡ option.Set) × (texts.set ≡ None)
 
+-- the path of a control socket's file
+abbrev pub ControlIs : OptionTexts → Result (String Global) OptionName → Type 0
+ControlIs texts (Ok path) = texts.control ≡ Some (string_bytes path)
+ControlIs texts (Err name) = (name ≡ option.Control) × (texts.control ≡ None)
+
 -- the limit, the greatest where the option isn't there
 abbrev pub LimitIs : OptionTexts → Result ℕ OptionName → Type 0
 LimitIs texts read =

@@ -155,6 +155,12 @@ tell =
 abbrev pub status : App
 status = with_rule (new_app (codes "status")) (required (codes "db"))
 
+-- `page --control PATH --port P`
+abbrev pub page : App
+page =
+    with_rule (with_rule (new_app (codes "page"))
+    (required (codes "control"))) (required (codes "port"))
+
 -- the program: it has a version, and one of its commands must be named
 abbrev pub acqd : App
 acqd =
@@ -168,7 +174,8 @@ program =
     with_subcommand (with_subcommand (with_subcommand (with_subcommand (with_subcommand
     (with_subcommand (with_subcommand (with_subcommand (with_subcommand (with_subcommand
     (with_subcommand (with_subcommand (with_subcommand (with_subcommand (with_subcommand
-    (with_subcommand (with_subcommand (with_subcommand (with_subcommand acqd
+    (with_subcommand (with_subcommand (with_subcommand (with_subcommand (with_subcommand acqd
     init.top) migrate.top) once.top) listen.top) replay.top)
     clearing.top) report.top) statement.top) find.top) holds.top) list.top)
-    ranges.top) pending.top) show.top) make.top) ask.top) explain.top) tell.top) status.top
+    ranges.top) pending.top) show.top) make.top) ask.top) explain.top) tell.top) status.top)
+    page.top

@@ -140,6 +140,8 @@ Does (Pending asked) remaining received sent told ended =
     EndsPlainly (λ _. received.after ≡ received.before) ended
 Does (Status asked) remaining received sent told ended =
     EndsPlainly (λ _. received.after ≡ received.before) ended
+Does (actions.Page asked) remaining received sent told ended =
+    EndsPlainly (λ _. IsUntouched received sent) ended
 Does (Show how form) remaining received sent told ended =
     EndsPlainly (λ plain. RunsShow how form received sent plain
     × ReadsWhole remaining received.before received.after plain) ended

@@ -4,6 +4,7 @@ use crate::ask_options::AskOptions;
 use crate::csv_options::CsvOptions;
 use crate::find_options::FindOptions;
 use crate::list_options::ListOptions;
+use crate::page_options::PageOptions;
 use crate::page_sums::PageSums;
 use crate::pending_options::PendingOptions;
 use crate::ranges_options::RangesOptions;
@@ -58,4 +59,6 @@ pub enum Action {
     Tell(TellOptions),
     /// Write the figures of the book in the file at this path.
     Status(String),
+    /// Show the page of a host that takes control connections.
+    Page(PageOptions),
 }

@@ -5,12 +5,12 @@ ghost use Rattle.clap.specs.Words.{HasMatchesOf, Text, fault_of, found_of};
 ghost use Rattle.acq_program.specs.Program.{program};
 ghost use Rattle.acq_program.specs.Arguments.{AsksAsk, AsksClearing, AsksExplain, AsksFind};
 ghost use Rattle.acq_program.specs.Arguments.{AsksHolds, AsksInit, AsksList, AsksListen, AsksMake};
-ghost use Rattle.acq_program.specs.Arguments.{AsksMigrate, AsksOnce, AsksPending, AsksRanges};
-ghost use Rattle.acq_program.specs.Arguments.{AsksReplay, AsksReport, AsksShow, AsksStatement};
-ghost use Rattle.acq_program.specs.Arguments.{AsksStatus, AsksTell, BoundsAre, DaysAre, EndpointIs};
-ghost use Rattle.acq_program.specs.Arguments.{ExplainedIs, IsSpan, ListenedIs, PatienceIs};
-ghost use Rattle.acq_program.specs.Arguments.{Reads, ReadsArguments, SoughtIs, settlement_by};
-ghost use Rattle.acq_program.specs.Arguments.{takes_both};
+ghost use Rattle.acq_program.specs.Arguments.{AsksMigrate, AsksOnce, AsksPage, AsksPending};
+ghost use Rattle.acq_program.specs.Arguments.{AsksRanges, AsksReplay, AsksReport, AsksShow};
+ghost use Rattle.acq_program.specs.Arguments.{AsksStatement, AsksStatus, AsksTell, BoundsAre};
+ghost use Rattle.acq_program.specs.Arguments.{DaysAre, EndpointIs, ExplainedIs, IsSpan, ListenedIs};
+ghost use Rattle.acq_program.specs.Arguments.{PatienceIs, Reads, ReadsArguments, SoughtIs};
+ghost use Rattle.acq_program.specs.Arguments.{settlement_by, takes_both};
 ghost use Rattle.acq_program.specs.Options.{found_texts};
 
 use crate::action::Action;
@@ -23,7 +23,7 @@ use crate::list_options::ListOptions;
 use crate::option_name::OptionName;
 use crate::option_values::{
     address_option, answer_within_option, book_option, card_ends_if_there, control_option,
-    count_option, day_if_there, day_option, events_option, file_option, form_of,
+    control_value, count_option, day_if_there, day_option, events_option, file_option, form_of,
     frame_within_option, from_one_address_option, gateway_option, gateway_within_option,
     group_option, idle_option, is_set, issuers_option, last_day_if_there, limit_option,
     list_file_option, listing_option, log_bytes_option, log_option, made_form_option,
@@ -32,6 +32,7 @@ use crate::option_values::{
     statement_form_of, stop_within_option, terminal_if_there, together_option, trace_if_there,
     within_option,
 };
+use crate::page_options::PageOptions;
 use crate::pending_options::PendingOptions;
 use crate::program::program;
 use crate::ranges_options::RangesOptions;
@@ -118,6 +119,7 @@ fn talks_asked_in(alloc: Global, matches: &ArgMatches) -> Result<Action, UsageFa
         Some(("explain", options)) => explain_of(alloc, options),
         Some(("tell", options)) => tell_of(alloc, options),
         Some(("status", options)) => status_of(alloc, options),
+        Some(("page", options)) => page_of(alloc, options),
         _ => Err(Error::from(AllocError).into()),
     }
 }
@@ -420,6 +422,15 @@ fn status_of(alloc: Global, options: &ArgMatches) -> Result<Action, UsageFault>
 {
     let path = file_option(alloc, options)?;
     Ok(Action::Status(path))
+}
+
+/// What `page` is asked for.
+fn page_of(alloc: Global, options: &ArgMatches) -> Result<Action, UsageFault>
+    ensures { Reads (AsksPage (found_texts (found_of options.now))) result }
+{
+    let control = control_value(alloc, options)?;
+    let port = port_option(options)?;
+    Ok(Action::Page(PageOptions { control, port }))
 }
 
 /// What `explain` is asked for.

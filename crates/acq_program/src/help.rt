@@ -533,3 +533,21 @@ file failed. A fault is one line on standard error:
 
 Example:
   acqd status --db book.db";
+
+pub(crate) const ABOUT_PAGE: &str = "Shows a page about a host to browsers of this machine";
+
+pub(crate) const MORE_OF_PAGE: &str = "\
+PATH is the socket's file at which `acqd listen --control PATH` takes control connections. The page
+is at http://127.0.0.1:P/ and renews itself every five seconds: what needs a person, the business
+day, places for terminals, what waits for its issuer, the day's sums by currency, and replies by
+code and by time. It shows no card number, and nothing can be changed there. /metrics gives what the
+host answers to `metrics`, as Prometheus reads it. Whoever asks, the host is asked once a second at
+most. If it doesn't answer, the page says so.
+
+It goes on until it is stopped. The status is 1 for a fault, 2 for wrong usage, 3 where memory ran
+out. A fault is one line on standard error:
+  acqd: 1 Memory
+  acqd: 53 Read                    the port can't be listened at
+
+Example:
+  acqd page --control host.control --port 8590";

@@ -1,5 +1,6 @@
 //! What a command finds on its machine.
 
+use crate::page_options::PageOptions;
 use crate::page_sums::PageSums;
 use acq_ask::Watch;
 use acq_book::Book;
@@ -109,6 +110,11 @@ pub trait Machine<B: Book + Drop>: Sized + Watch {
     /// seconds are waited; 0 is for ever.
     fn connect_at(&self, path: &str, within: u64) -> Result<(Self::Lines, Self::Answers), Fault>
         ensures { IfErr result (λ fault. fault ≡ Read ⊎ fault ≡ Silent) };
+
+    /// Shows the page of the host that takes control connections at a path, at a port of this
+    /// machine, until connections can't be had there.
+    fn serve_page(&self, alloc: Global, asked: &PageOptions) -> Result<(), Fault>
+        ensures { IfErr result IsOfListening };
 
     /// Connects to the host that takes connections at an address and a port, for whose replies so
     /// many seconds are waited; 0 is for ever.

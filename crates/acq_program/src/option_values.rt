@@ -3,8 +3,9 @@
 ghost use Rattle.std.specs.Prelude.{◌≡◌, codes, IfErr, IfOk, option_map, string_bytes};
 ghost use Rattle.clap.specs.Words.{first_value, found_of};
 ghost use Rattle.acq_program.specs.Arguments.{IsNoMemory, PathIs, Reads};
-ghost use Rattle.acq_program.specs.Options.{AddressIs, AnswerWithinIs, CardEndsIfThere, CountIs};
-ghost use Rattle.acq_program.specs.Options.{DayIfThere, DayIs, FileIs, FrameWithinIs};
+ghost use Rattle.acq_program.specs.Options.{AddressIs, AnswerWithinIs, CardEndsIfThere};
+ghost use Rattle.acq_program.specs.Options.{ControlIs, CountIs, DayIfThere, DayIs, FileIs};
+ghost use Rattle.acq_program.specs.Options.{FrameWithinIs};
 ghost use Rattle.acq_program.specs.Options.{FromOneAddressIs, GatewayWithinIs, GroupIs, IdleIs};
 ghost use Rattle.acq_program.specs.Options.{LastDayIfThere, LimitIs, ListFileIs, ListingIs};
 ghost use Rattle.acq_program.specs.Options.{LogBytesIs, MadeFormIs, MerchantIs, MomentIfThere};
@@ -171,6 +172,16 @@ pub(crate) fn path_value(alloc: Global, options: &ArgMatches) -> Result<String, 
     match options.get_str("path") {
         Some(path) => Ok(String::from_str(alloc, path)?),
         None => Err(UsageFault::BadValue(OptionName::Path)),
+    }
+}
+
+/// The path of a control socket's file, which has to be there.
+pub(crate) fn control_value(alloc: Global, options: &ArgMatches) -> Result<String, UsageFault>
+    ensures { Reads (ControlIs (found_texts (found_of options.now))) result }
+{
+    match options.get_str("control") {
+        Some(path) => Ok(String::from_str(alloc, path)?),
+        None => Err(UsageFault::BadValue(OptionName::Control)),
     }
 }
 

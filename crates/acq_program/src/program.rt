@@ -473,8 +473,22 @@ const EXPLAIN: [Parameter<'static>; 6] = [
 /// What `status` takes.
 const STATUS: [Parameter<'static>; 1] = [BOOK];
 
+/// What `page` takes.
+const PAGE: [Parameter<'static>; 2] = [
+    Parameter {
+        name: "control",
+        kind: Required("PATH"),
+        help: "The socket's file at which the host takes control connections",
+    },
+    Parameter {
+        name: "port",
+        kind: Required("P"),
+        help: "The port of this machine at which the page is, 1 to 65535",
+    },
+];
+
 /// The commands, in the order in which the help has them.
-const COMMANDS: [CommandText<'static>; 19] = [
+const COMMANDS: [CommandText<'static>; 20] = [
     CommandText {
         name: "init",
         about: help::ABOUT_INIT,
@@ -588,6 +602,12 @@ const COMMANDS: [CommandText<'static>; 19] = [
         about: help::ABOUT_STATUS,
         more: help::MORE_OF_STATUS,
         parameters: &STATUS,
+    },
+    CommandText {
+        name: "page",
+        about: help::ABOUT_PAGE,
+        more: help::MORE_OF_PAGE,
+        parameters: &PAGE,
     },
 ];
 

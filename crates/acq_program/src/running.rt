@@ -19,6 +19,7 @@ use crate::explaining::explain;
 use crate::finding::write_found;
 use crate::listing::write_list;
 use crate::machine::Machine;
+use crate::page_options::PageOptions;
 use crate::page_sums::PageSums;
 use crate::pending::answer_pending;
 use crate::setting_ranges::set_ranges;
@@ -143,12 +144,22 @@ fn run<B: Lenient + Drop, M: Machine<B> + Drop, C: Clock, S: Source, K: Sink, F:
         Action::Show(how, form) => plainly(show(alloc, how, form, input, output)),
         Action::Make(said, form) => plainly(make(alloc, said, &form, input, output)),
         Action::Status(path) => plainly(tell_status(alloc, machine, &path, output)),
+        Action::Page(asked) => plainly(serve_page(alloc, machine, &asked)),
         Action::Explain(asked) => {
             plainly(explain(alloc, keys, machine, &asked, clock, input, output))
         }
         Action::Ask(asked) => plainly(ask_host(alloc, machine, &asked, input, output)),
         Action::Tell(asked) => tell_host(alloc, machine, &asked, input, output, faults),
     }
+}
+
+/// Shows the page of a host.
+fn serve_page<B: Book + Drop, M: Machine<B> + Drop>(
+    alloc: Global,
+    machine: M,
+    asked: &PageOptions,
+) -> Result<(), Fault> {
+    machine.serve_page(alloc, asked)
 }
 
 /// How a command ended that has no status of its own: with 0 where all is well.

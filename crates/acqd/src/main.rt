@@ -16,6 +16,7 @@ mod log_output;
 mod new_book_file;
 mod no_book;
 mod open_book;
+mod page_host;
 mod standard_descriptors;
 mod standard_error;
 mod stopped_runs;

@@ -13,6 +13,7 @@ use crate::host_line::HostLine;
 use crate::log_output::LogOutput;
 use crate::new_book_file::NewBookFile;
 use crate::open_book::{make_book, migrate_book, open_book};
+use crate::page_host::PageHost;
 use crate::terminals_host::terminals_host;
 use acq_ask::Watch;
 use acq_causes::{Lack, Signs};
@@ -21,7 +22,8 @@ use acq_faults::{Fault, ListenOptions, Patience};
 use acq_gateway::{GatewayDesk, GatewayIssuer};
 use acq_link::{ReadSource, WriteSink};
 use acq_out::read_events;
-use acq_program::{Machine, PageSums};
+use acq_page_server::PageServer;
+use acq_program::{Machine, PageOptions, PageSums};
 use acq_sql::OnceBook;
 use acq_sql_checking::OpeningFault;
 use acq_stand_in::StandIn;
@@ -35,7 +37,7 @@ use sqlite_std_file::FileFrom;
 use sqlite_store::FileStore;
 use std::alloc::Global;
 use std::fs::File;
-use std::net::{SocketAddrV4, TcpListener, TcpStream};
+use std::net::{Ipv4Addr, SocketAddr, SocketAddrV4, TcpListener, TcpStream};
 use std::os::unix::net::UnixStream;
 use std::time::{Duration, Instant};
 
@@ -249,6 +251,24 @@ impl<'a, D: Start> Machine<OnceBook<FileStore<FileFrom<D>>>> for ThisMachine<'a,
     > {
         let (lines, answers) = control_host(self.rt, path, within, self.signs)?;
         Ok((WriteSink::new(lines), ReadSource::new(answers)))
+    }
+
+    fn serve_page(&self, alloc: Global, asked: &PageOptions) -> Result<(), Fault> {
+        self.signs.listens.set(true);
+        let endpoint = SocketAddrV4::new(Ipv4Addr::LOCALHOST, asked.port);
+        let Ok(mut server) = PageServer::listen(self.rt, alloc, SocketAddr::V4(endpoint)) else {
+            note_port(self.rt, self.signs, endpoint);
+            return Err(Fault::Read);
+        };
+        let host = PageHost {
+            rt: self.rt,
+            path: asked.control.as_str(),
+            signs: self.signs,
+        };
+        match server.serve(alloc, &host, self.rt) {
+            Ok(()) => Ok(()),
+            Err(_) => Err(Fault::Read),
+        }
     }
 
     fn ask_at(

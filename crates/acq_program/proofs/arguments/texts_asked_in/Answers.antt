@@ -36,7 +36,7 @@ returns-in-Some-ranges-default c = λ words well matches.
     let found = found_of it.options.now in
     reads_command (codes "ranges") AsksRanges
     (λ command asked h.
-    inr (inr (inr (inr (inr (inr (inr (inr (inr (inr (inr (inr (inr (inr (inr (inr (inr (inr h))))))))))))))))))
+    inr (inr (inr (inr (inr (inr (inr (inr (inr (inr (inr (inr (inr (inr (inr (inr (inr (inr (inl h)))))))))))))))))))
     words found well
     (named c.args.matches.now program words (codes "ranges") (rows_of found) refl
     matches (ap Some (sym it.is-ranges) ∙ it.ensures.name) it.ensures.rows)
