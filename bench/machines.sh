@@ -48,6 +48,8 @@ for k in range(first, first + count):
         except OSError:
             time.sleep(0.05)
     end.setsockopt(socket.IPPROTO_TCP, socket.TCP_NODELAY, 1)
+    # As a proxy's check says that it speaks for nobody.
+    end.sendall(b"PROXY UNKNOWN\\r\\n")
     ends.register(end, selectors.EVENT_READ, k)
 sent, began = {}, time.perf_counter()
 def send(end, k):
