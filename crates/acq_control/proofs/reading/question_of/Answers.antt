@@ -67,6 +67,9 @@ returns-in-Pending-clause-asks c =
     rw is (rw (n, behind 8 line) at c.pending_on.ensures) in
     rw whole at asks
 
+pub returns-in-Report-clause-shows : goal.returns-in-Report-clause-shows
+returns-in-Report-clause-shows c = c.settlement_of.ensures.shows c.args.serving
+
 pub returns-in-Holds-clause-shows : goal.returns-in-Holds-clause-shows
 returns-in-Holds-clause-shows c = c.holds_of.ensures.shows c.args.serving
 
