@@ -143,13 +143,21 @@ def said(program, script, fault):
     return ran.returncode, ran.stdout + ran.stderr
 
 
+def is_right(line, status, text):
+    """Whether a script passed, or failed by this line, if there is one."""
+    return status == (0 if line is None else 1) and (line or "") in text
+
+
 def main(program):
     tries = [(script, *it) for script, faults in SCRIPTS for it in [("", None), *faults]]
     with concurrent.futures.ThreadPoolExecutor(6) as pool:
         results = list(pool.map(lambda it: said(program, *it[:2]), tries))
     wrong = 0
     for (script, fault, line), (status, text) in zip(tries, results):
-        if status != (0 if line is None else 1) or (line or "") not in text:
+        if not is_right(line, status, text):
+            # Scripts count seconds, and one that runs beside five others may be late: alone it isn't.
+            status, text = said(program, script, fault)
+        if not is_right(line, status, text):
             wrong += 1
             print(f"{script}, with {fault or 'no fault'}: status {status}, {text[:600]!r}")
     count = sum(len(it[1]) for it in SCRIPTS)
