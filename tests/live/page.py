@@ -78,13 +78,15 @@ class Page:
         return parts(self.ask(f"{method} {target} HTTP/1.1\r\nHost: localhost\r\n\r\n".encode()))
 
     def text(self):
+        self.is_there()
         status, _, body = self.get()
         wanted("the status of the page", status, 200)
         return body.decode("ascii")
 
     def is_there(self):
         wanted("the page's process", self.process.poll(), None)
-        wanted("the status of the page", self.get()[0], 200)
+        # A host beside other scripts may need more than the second that a page waits for it.
+        when("the page isn't there", lambda: self.get()[0] == 200)
 
 
 def rest(end):
