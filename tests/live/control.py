@@ -261,6 +261,8 @@ def play_rows(program):
             wanted("words of long lines in the log", long, ["frame"] + ["other"] * 5)
             lists = [word for (line, _), word in zip(rows, words) if line.startswith("list")]
             wanted("words of listings in the log", lists, ["list"] * 6)
+            sums = [word for (line, _), word in zip(rows, words) if line.startswith("sums")]
+            wanted("words of sums in the log", sums, ["sums"] * 4)
 
 
 def is_of(want, text):
