@@ -8,6 +8,7 @@ pub mod MaskText
 pub mod RangeEnds
 pub mod OneRangeOfPrefix
 pub mod NearestRange
+pub mod FirstInOrder
 pub mod OneRangeMore
 pub mod OneRangeLess
 pub mod LeastOverlap

@@ -15,7 +15,7 @@ use Rattle.card_no.proofs.FirstThatPasses.{find-none, find-passes, find-contains
 use Rattle.card_no.proofs.OneRangeOfPrefix.{holds_one}
 
 -- each range ends before every later one begins
-apart_at : (rs : List Range) (j k : ℕ) (d e : Range) → are_apart rs ≡ true → j < k → k < length rs
+pub apart_at : (rs : List Range) (j k : ℕ) (d e : Range) → are_apart rs ≡ true → j < k → k < length rs
     → (get_or rs j d).high < (get_or rs k e).low
 apart_at [] j k d e h lt within = absurd (omega arith)
 apart_at (r ∷ rs) j zero d e h lt within = absurd (omega arith)

@@ -63,11 +63,11 @@ impl RangeList {
     }
 
     /// Of the ranges that overlap one with these ends, that of least `low`, if there is one. It
-    /// goes over the ranges, and takes no memory.
+    /// takes no memory.
     pub fn overlapping(&self, low: u32, high: u32) -> Option<&Range>
         ensures { option_copied result ≡ overlapped_by (between low high) self.now }
     {
-        self.ranges.iter().find(|range| range.overlaps(low, high))
+        overlapping_in(self.ranges.as_slice(), low, high)
     }
 
     /// Adds a range at its place. A bad value is reported before an overlap. An `Err` changes
@@ -136,22 +136,59 @@ fn begun_at(ranges: &[Range], prefix: Prefix) -> usize
     ranges.partition_point(|range| range.low <= number)
 }
 
+/// The range of least `low` that overlaps one with these ends: the first that doesn't end below
+/// it, or none.
+fn overlapping_in(ranges: &[Range], low: u32, high: u32) -> Option<&Range>
+    requires { are_ranges ranges.now ≡ true }
+    ensures { option_copied result ≡ overlapped_by (between low high) ranges.now }
+{
+    let nearest = ranges.get(ended_below(ranges, low))?;
+    if nearest.overlaps(low, high) {
+        Some(nearest)
+    } else {
+        None
+    }
+}
+
 /// Where a range goes, in order of `low`.
 fn place(ranges: &[Range], range: &Range) -> usize
+    requires { are_ranges ranges.now ≡ true }
     ensures within { result ≤ length ranges.now }
     ensures put { insert ranges.now result range.now ≡ with_range ranges.now range.now }
 {
-    for (i, other) in ranges.iter().enumerate() {
-        if other.low >= range.low {
-            return i;
-        }
-    }
-    ranges.len()
+    begun_below(ranges, range.low)
 }
 
-/// The place of the range with just these ends.
+/// The place of the range with just these ends: that of the first that doesn't begin below, or
+/// none.
 fn place_with_ends(ranges: &[Range], low: u32, high: u32) -> Option<usize>
+    requires { are_ranges ranges.now ≡ true }
     ensures { result ≡ position (has_ends low high) ranges.now }
 {
-    ranges.iter().position(|range| range.has_ends(low, high))
+    let place = begun_below(ranges, low);
+    if ranges.get(place)?.has_ends(low, high) {
+        Some(place)
+    } else {
+        None
+    }
+}
+
+/// How many ranges end below a number.
+fn ended_below(ranges: &[Range], number: u32) -> usize
+    requires { are_ranges ranges.now ≡ true }
+    ensures within { result ≤ length ranges.now }
+    ensures ended { AllWithin (λ range. range.high < number) ranges.now 0 result }
+    ensures later { AllWithin (λ range. number ≤ range.high) ranges.now result (length ranges.now) }
+{
+    ranges.partition_point(|range| range.high < number)
+}
+
+/// How many ranges begin below a number.
+fn begun_below(ranges: &[Range], number: u32) -> usize
+    requires { are_ranges ranges.now ≡ true }
+    ensures within { result ≤ length ranges.now }
+    ensures begun { AllWithin (λ range. range.low < number) ranges.now 0 result }
+    ensures later { AllWithin (λ range. number ≤ range.low) ranges.now result (length ranges.now) }
+{
+    ranges.partition_point(|range| range.low < number)
 }
