@@ -51,7 +51,7 @@ pub fn moment_of(text: &[u8]) -> Option<Moment>
 }
 
 /// A reference; each number that a field spells is one.
-pub(crate) fn reference_of(text: &[u8]) -> Option<Reference>
+pub fn reference_of(text: &[u8]) -> Option<Reference>
     ensures { result ≡ number_of_text text.now }
 {
     Reference::from_number(number_of(text)?)
@@ -77,7 +77,7 @@ pub fn merchant_of(text: &[u8]) -> Option<MerchantId>
 }
 
 /// A terminal's name, filled on the right with spaces.
-pub(crate) fn terminal_of(text: &[u8]) -> Option<TerminalId>
+pub fn terminal_of(text: &[u8]) -> Option<TerminalId>
     ensures { result ≡ terminal_of_text text.now }
 {
     if text.is_empty() || text.len() > TERMINAL_LEN {

@@ -15,6 +15,6 @@ mod output_lines;
 pub mod records;
 
 pub use event_lines::read_events;
-pub use fields::{merchant_of, moment_of, verdict_of};
+pub use fields::{merchant_of, moment_of, reference_of, terminal_of, verdict_of};
 pub use out_fault::OutFault;
 pub use output_lines::write_output;

@@ -12,6 +12,7 @@ ghost use Rattle.acq_clearing.specs.ClearingFile.{clearing_text};
 ghost use Rattle.acq_clearing.specs.Slices.{file_from};
 ghost use Rattle.acq_statement.specs.ReportCsv.{report_csv};
 
+use crate::book_look::BookLook;
 use crate::book_text::BookText;
 use crate::host::Host;
 use acq_book::{Book, BookFault};
@@ -115,5 +116,15 @@ impl<B: Book + Drop> Host<B> {
         ensures store { CountsStore result (B.failures self.old) (B.failures self.new) }
     {
         asked.write(self.alloc, &mut self.book, writer)
+    }
+
+    /// Has a look at the book.
+    pub fn look<T, X: BookLook<T>>(&mut self, asked: &X) -> Result<T, BookFault>
+        ensures makes { B.is_honest self.new → B.is_open self.old → IfOk result
+            (X.makes asked.now (B.tables self.old)) }
+        ensures looks { Looks B.Book self.old self.new (is_ok result) }
+        ensures store { CountsFault result (B.failures self.old) (B.failures self.new) }
+    {
+        asked.look(self.alloc, &mut self.book)
     }
 }
