@@ -263,6 +263,8 @@ def play_rows(program):
             wanted("words of listings in the log", lists, ["list"] * 6)
             sums = [word for (line, _), word in zip(rows, words) if line.startswith("sums")]
             wanted("words of sums in the log", sums, ["sums"] * 4)
+            found = [word for (line, _), word in zip(rows, words) if line.startswith("find")]
+            wanted("words of what is found in the log", found, ["find"] * 13)
 
 
 def is_of(want, text):
@@ -382,11 +384,11 @@ class Seller:
         wanted("the code of a sale beside a clearing file", code_of(sold), "00")
 
 
-def ask_beside(one, other, seller, line, file):
-    """Asks for a clearing file, and for the line's answer over another connection: how many
-    messages were answered before the first byte of the file was there, and that answer, if it came
-    before it, too. The rest of the file is read while the terminal goes on."""
-    one.end.sendall(f"clearing,{DAY}\n".encode())
+def ask_beside(one, other, seller, line, file, asked=f"clearing,{DAY}"):
+    """Asks for a clearing file or another text, and for the line's answer over another connection:
+    how many messages were answered before the first byte of the file was there, and that answer, if
+    it came before it, too. The rest of the file is read while the terminal goes on."""
+    one.end.sendall(f"{asked}\n".encode())
     other.end.sendall(f"{line}\n".encode())
     answered, answer, early = 0, None, None
     while True:
@@ -440,6 +442,28 @@ def a_file_in_slices(program):
         wanted("the file afterwards", book.output("clearing", "--day", DAY).encode(), file)
 
 
+def found_in_slices(program):
+    """Terminals and other control connections go on while requests are gone over for a `find`."""
+    with Book(program, SHOPS) as book:
+        end_day(book)
+        words = ["--merchant", merchant(SHOPS[0]), "--reference", "1"]
+        text = book.output("find", *words).encode()
+        with Host(book, "--together", "8", control=True) as host:
+            one, other, seller = host.control(), host.control(), Seller(host)
+            # Each has its place, in this order.
+            for it in (one, other):
+                wanted("an answer", it.ask("enrol,NEW"), "acqd: 62 BadLine 1")
+            asked, seen = f"find,{merchant(SHOPS[0])},reference,1", []
+            while not any(count >= IN_SLICES and early for count, early in seen):
+                if len(seen) == TURNS:
+                    raise Wrong(f"answers before what is found: {seen}")
+                answered, early, answer = ask_beside(one, other, seller, "status", text, asked)
+                wanted("whether status is answered well", b"merchants " in answer, True)
+                seen.append((answered, early is not None))
+            go_away(host, seller, asked, len(text) // 2)
+            wanted("what is found once others went away", one.ask(asked), text)
+
+
 def cut_off_in_a_file(book):
     """A connection that reads nothing is cut off in the midst of a clearing file: 54 counts all
     bytes that went out, and not those of the last slice alone."""
@@ -456,15 +480,15 @@ def cut_off_in_a_file(book):
         wanted("the fault of one that is cut off in a file", told, [f"acqd: 54 Write {gone}"])
 
 
-def go_away(host, seller):
-    """More connections than there are places ask for a clearing file and go away, at once or in the
-    midst of it: the terminal goes on, and all they had is given back."""
+def go_away(host, seller, asked=f"clearing,{DAY}", enough=20000):
+    """More connections than there are places ask for a text and go away, at once or in the midst of
+    it: the terminal goes on, and all they had is given back."""
     before = host.descriptors()
     for turn in range(10):
         gone = host.control()
-        gone.end.sendall(f"clearing,{DAY}\n".encode())
+        gone.end.sendall(f"{asked}\n".encode())
         if turn % 2:
-            gone.taken(20000)
+            gone.taken(enough)
         gone.end.close()
         seller.turn()
     when("places of those that went away", lambda: host.descriptors() == before)
@@ -475,5 +499,5 @@ def go_away(host, seller):
 if __name__ == "__main__":
     sys.exit(main([
         tell_answers, a_socket_that_is_taken, log_to_standard_error, a_day, a_file_in_slices,
-        play_rows,
+        found_in_slices, play_rows,
     ]))

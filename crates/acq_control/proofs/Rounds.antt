@@ -1,17 +1,18 @@
 -- How one round goes.
 use Rattle.std.proofs.Common.{◌≡◌, ◌≢◌, ◌==◌, ℕ, Bool, true, false, List, [], ◌∷◌, Option, Result}
 use Rattle.std.proofs.Common.{Ok, Err, ap, arith, length, sym, ◌∙◌, ◌++◌, take, drop, refl, subst}
-use Rattle.std.proofs.Common.{None, Some, is_some, true≢false}
+use Rattle.std.proofs.Common.{None, Some, true≢false}
 use Rattle.std.proofs.lemmas.Bool.Decides.{nat_tests}
 use Rattle.acq_core.specs.Tables.{Tables}
 use Rattle.acq_front.specs.Stops.{Left, LeavesAll}
 use Rattle.acq_status.specs.declared.serving.Serving.{Serving}
 use Rattle.acq_control.specs.declared.question.Question.{Question}
 use Rattle.acq_control.specs.Answers.{answer_of, tables_behind}
-use Rattle.acq_control.specs.Ends.{End, MakesSlice, TakesLine, WaitsOn}
+use Rattle.acq_control.specs.Ends.{End, MakesSlice, PreparesLine, TakesLine, WaitsOn}
 use Rattle.acq_control.specs.Log.{FollowsActs, asked_by, behind_acts}
-use Rattle.acq_control.specs.Unmade.{MayBeUnmade, unmade_at}
-use Rattle.acq_control.specs.declared.clearing_answer.ClearingAnswer.{ClearingAnswer}
+use Rattle.acq_control.specs.Unmade.{MayBeUnmade, is_said, unmade_at}
+use Rattle.acq_control.specs.declared.unmade_answer.UnmadeAnswer.{UnmadeAnswer}
+use Rattle.acq_control.specs.declared.unmade_answer.UnmadeAnswer.TheVariants.{Clearing, Finding}
 use Rattle.acq_front.specs.Faults.{UnlessRefused}
 use Rattle.acq_front.specs.declared.front_fault.FrontFault as fault
 use Rattle.acq_control.specs.Exchanges.{AsksOne, Goes, MovesOn, Passed}
@@ -25,17 +26,24 @@ use Rattle.acq_control.specs.declared.wish.Wish.{Wish}
 use Rattle.acq_control.proofs.Following.{behind-append, follows_asked, follows_fed}
 use Rattle.acq_control.proofs.Following.{follows_written}
 
+-- nothing of what was begun to be said is still to be made
+said_none : (t : Tables) (o : Option UnmadeAnswer) → is_said o ≡ true → unmade_at t o ≡ []
+said_none t None said = refl
+said_none t (Some (Clearing c)) said = absurd (true≢false (sym said))
+said_none t (Some (Finding search)) said = refl
+
 module _ (may_give : ℕ → Type 0) (serving : Serving) (old : Tables) (left : Left) where
   -- a line was taken
   pub takes_on : (came went : List ℕ) (before after : End) (asked : Option Question) (wish : Wish) →
       TakesLine may_give serving old left before after asked → wish_of asked ≡ wish →
+      is_said before.unmade ≡ true →
       AsksOne may_give serving old left wish
       (record {
         came = came;
         held = before.held;
         went = went;
         unsent = [];
-        unmade = None;
+        unmade = before.unmade;
         taken = before.taken;
       })
       (record {
@@ -46,7 +54,7 @@ module _ (may_give : ℕ → Type 0) (serving : Serving) (old : Tables) (left : 
         unmade = after.unmade;
         taken = after.taken;
       })
-  takes_on came went before after asked wish took is_so = record {
+  takes_on came went before after asked wish took is_so said = record {
     asked = asked;
     moment = took.moment;
     given = took.given;
@@ -57,6 +65,9 @@ module _ (may_give : ℕ → Type 0) (serving : Serving) (old : Tables) (left : 
     follows = λ k t acts is f.
         let front = took.takes f.held f.holds in
         let act = asked_by k took.moment front.line asked in
+        let may = subst (λ (x : Tables). MayBeUnmade x before.unmade) (sym is) f.may in
+        let follows = subst (λ (l : List ℕ). FollowsActs k t acts came went f.held l before.taken)
+        (said_none (behind_acts t acts) before.unmade said) f.follows in
         let behind : left.tables ≡ behind_acts t (acts ++ act ∷ []) =
         took.tables ∙ ap (λ (x : Tables). tables_behind x asked) is
         ∙ sym (behind-append t acts (act ∷ [])) in (
@@ -68,16 +79,16 @@ module _ (may_give : ℕ → Type 0) (serving : Serving) (old : Tables) (left : 
                 (after.unsent ++ unmade_at x after.unmade) after.taken) behind
                 (follows_asked k t acts came went f.held front.rest
                 (after.unsent ++ unmade_at left.tables after.unmade) front.line
-                before.taken after.taken took.moment asked f.follows front.begins front.asks
-                took.count (took.answers ∙ ap (λ (t : Tables). answer_of t after.taken asked) is));
-            may = subst (λ (x : Tables). MayBeUnmade x after.unmade) behind took.unmade;
+                before.taken after.taken took.moment asked follows front.begins front.asks
+                took.count (took.answers may ∙ ap (λ (t : Tables). answer_of t after.taken asked) is));
+            may = subst (λ (x : Tables). MayBeUnmade x after.unmade) behind (took.unmade may);
           },
         );
   }
 
   -- some of an answer was written
   pub writes_on : (came went : List ℕ) (held : Held) (unsent : List ℕ)
-      (unmade : Option ClearingAnswer) (taken n : ℕ) →
+      (unmade : Option UnmadeAnswer) (taken n : ℕ) →
       left.tables ≡ old →
       LeavesAll left old [] →
       MovesOn may_give serving old left
@@ -147,6 +158,38 @@ module _ (may_give : ℕ → Type 0) (serving : Serving) (old : Tables) (left : 
         };
   }
 
+  -- rows are to be gone over for the next line
+  pub prepares_on : (came went : List ℕ) (before after : End) →
+      PreparesLine may_give serving old left before after →
+      MovesOn may_give serving old left
+      (record {
+        came = came;
+        held = before.held;
+        went = went;
+        unsent = before.unsent;
+        unmade = before.unmade;
+        taken = before.taken;
+      })
+      (record {
+        came = came;
+        held = after.held;
+        went = went;
+        unsent = after.unsent;
+        unmade = after.unmade;
+        taken = after.taken;
+      })
+  prepares_on came went before after prepares = record {
+    tables = prepares.tables;
+    stop = prepares.stop;
+    follows = λ k t acts is f. record {
+      held = f.held;
+      holds = rw prepares.begins.held f.holds;
+      follows = rw (prepares.begins.unsent, prepares.begins.rest (behind_acts t acts), prepares.begins.taken)
+          f.follows;
+      may = prepares.begins.unmade (behind_acts t acts);
+    };
+  }
+
   -- no line was whole, and a piece was read
   pub reads_on : (came went : List ℕ) (before mid : End) (after : Passed) (piece : List ℕ) →
       WaitsOn may_give serving old left before mid → after.came ≡ came ++ piece →
@@ -210,7 +253,3 @@ none_left (x ∷ seen) left b is on same =
     let some : (length (x ∷ seen) == 0) ≡ false = grind (arith, nat_tests) in
     absurd (true≢false (sym on ∙ is ∙ some))
 
--- nothing is still to be made, where that was seen
-pub unmade_none : (o : Option ClearingAnswer) (b : Bool) → b ≡ is_some o → b ≡ false → o ≡ None
-unmade_none None b is unmade = refl
-unmade_none (Some c) b is unmade = absurd (true≢false (sym is ∙ unmade))

@@ -39,9 +39,10 @@ module _ {S : Type 0} (may_give : ℕ → Type 0) (serving : Serving) (book : Gh
       BeginsWithAsked after.held moment asked bytes) →
       may_give moment → Shows serving asked →
       Does book a c asked true →
+      (MayBeUnmade (book.tables a) before.unmade →
       after.unsent ++ unmade_at (book.tables c) after.unmade
-      ≡ answer_of (book.tables a) after.taken asked →
-      MayBeUnmade (book.tables c) after.unmade →
+      ≡ answer_of (book.tables a) after.taken asked) →
+      (MayBeUnmade (book.tables a) before.unmade → MayBeUnmade (book.tables c) after.unmade) →
       after.taken ≡ before.taken + 1 → wish ≡ wish_of asked →
       Steps may_give serving (book.tables a) (left_of book c) before after (Ok (Took wish))
   line_taken moment asked wish takes given shows does answers unmade count is = (

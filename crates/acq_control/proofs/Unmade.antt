@@ -1,4 +1,4 @@
--- What is still to be made of a clearing file is so after whatever events.
+-- What is still to be made of an answer is so after whatever events.
 use Rattle.std.proofs.Common.{◌≡◌, ◌++◌, ◌+◌, ◌∙◌, ℕ, List, Option, Some, None, ap, length, refl}
 use Rattle.std.proofs.Common.{[], ◌∷◌, subst, sym}
 use Rattle.std.specs.Prelude.{filter, flat_map}
@@ -16,7 +16,9 @@ use Rattle.acq_control.specs.Exchanges.{FollowsLog, Passed}
 use Rattle.acq_control.specs.Log.{Act, FollowsActs, behind_acts, events_in}
 use Rattle.acq_control.proofs.Following.{behind-append}
 use Rattle.acq_control.specs.Unmade.{IsCounted, MayBeUnmade, rest_of, unmade_at}
-use Rattle.acq_control.specs.declared.clearing_answer.ClearingAnswer.{ClearingAnswer}
+use Rattle.acq_inquiry.proofs.Later.{searched_later}
+use Rattle.acq_control.specs.declared.unmade_answer.UnmadeAnswer.{UnmadeAnswer}
+use Rattle.acq_control.specs.declared.unmade_answer.UnmadeAnswer.TheVariants.{Clearing, Finding}
 use Rattle.acq_control.specs.declared.clearing_stage.ClearingStage.{ClearingStage}
 use Rattle.acq_control.specs.declared.clearing_stage.ClearingStage.TheVariants.{Counting, Saying}
 
@@ -40,19 +42,21 @@ module _ (t u : Tables) (day : ℕ) (same : postings_at u day ≡ postings_at t 
       ∙ ap length (sym (file_same Beginning))
   counted_same (Saying from) is = tt
 
-pub unmade_later : (t : Tables) (events : List Event) (o : Option ClearingAnswer) →
+pub unmade_later : (t : Tables) (events : List Event) (o : Option UnmadeAnswer) →
     MayBeUnmade t o → MayBeUnmade (tables_after t events) o
 unmade_later t events None may = tt
-unmade_later t events (Some c) may = record {
+unmade_later t events (Some (Finding search)) may = searched_later t events search may
+unmade_later t events (Some (Clearing c)) may = record {
   given = given_again t events c.day may.given;
   counted = counted_same t (tables_after t events) c.day
       (same_postings t events c.day may.given) c.stage may.counted;
 }
 
-pub unmade_same : (t : Tables) (events : List Event) (o : Option ClearingAnswer) →
+pub unmade_same : (t : Tables) (events : List Event) (o : Option UnmadeAnswer) →
     MayBeUnmade t o → unmade_at (tables_after t events) o ≡ unmade_at t o
 unmade_same t events None may = refl
-unmade_same t events (Some c) may =
+unmade_same t events (Some (Finding search)) may = refl
+unmade_same t events (Some (Clearing c)) may =
     rest_same t (tables_after t events) c.day (same_postings t events c.day may.given) c.stage
 
 -- a connection goes on to follow acts past one that has nothing for it

@@ -13,6 +13,7 @@ use Rattle.acq_reports.specs.declared.report_fault.ReportFault.{ReportFault}
 use Rattle.acq_directory.specs.Listings.{listing_text}
 use Rattle.acq_statement.specs.DaySums.{day_sums}
 use Rattle.acq_statement.specs.ReportCsv.{report_csv}
+use Rattle.acq_inquiry.specs.InquiryTexts.{inquiry_text}
 use Rattle.acq_status.specs.Figures.{figures_at}
 use Rattle.acq_status.specs.Texts.{text_in}
 use Rattle.acq_stand_in.specs.Pending.{pending_text}
@@ -51,6 +52,9 @@ answer_of t number (Some (question.Report asked)) =
 answer_of t number (Some (question.ReportCsv day)) =
     text_unless_refused (day_refusal t day) (report_csv t day)
 answer_of t number (Some (question.Sums day)) = text_answer (day_sums t day)
+answer_of t number (Some (question.Find sought)) =
+    text_unless_refused (merchant_refusal t sought.merchant)
+    (inquiry_text t sought.merchant sought.inquiry)
 answer_of t number (Some (question.Holds merchant moment)) =
     text_unless_refused (merchant_refusal t merchant) (holds_text t merchant moment)
 answer_of t number (Some (question.Pending day moment)) =

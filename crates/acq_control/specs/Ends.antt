@@ -12,11 +12,12 @@ use Rattle.acq_status.specs.declared.serving.Serving.{Serving}
 use Rattle.acq_control.specs.Questions.{Asks, Shows, wish_of}
 use Rattle.acq_control.specs.Answers.{answer_of, events_asked, tables_behind}
 use Rattle.acq_control.specs.Unmade.{MayBeUnmade, unmade_at}
-use Rattle.acq_control.specs.declared.clearing_answer.ClearingAnswer.{ClearingAnswer}
 use Rattle.acq_control.specs.declared.control_conversation.ControlConversation.{ControlConversation}
 use Rattle.acq_control.specs.declared.control_turn.ControlTurn.{ControlTurn}
 use Rattle.acq_control.specs.declared.control_turn.ControlTurn.TheVariants.{Waits, Took}
+use Rattle.acq_control.specs.declared.control_turn.ControlTurn.TheVariants.{Prepares}
 use Rattle.acq_control.specs.declared.question.Question.{Question}
+use Rattle.acq_control.specs.declared.unmade_answer.UnmadeAnswer.{UnmadeAnswer}
 
 -- what came and belongs to no line yet
 abbrev pub held_of : ControlConversation → Held
@@ -31,7 +32,7 @@ abbrev pub gone_of : ControlConversation → ℕ
 gone_of c = c.gone
 
 -- what of it is still to be made, before more is to be written
-abbrev pub unmade_of : ControlConversation → Option ClearingAnswer
+abbrev pub unmade_of : ControlConversation → Option UnmadeAnswer
 unmade_of c = c.unmade
 
 -- how many lines were taken
@@ -42,7 +43,7 @@ taken_of c = c.taken
 pub record End : Type 0 where
   pub held : Held
   pub unsent : List ℕ
-  pub unmade : Option ClearingAnswer
+  pub unmade : Option UnmadeAnswer
   pub taken : ℕ
 
 abbrev pub end_of : ControlConversation → End
@@ -82,6 +83,14 @@ pub record MakesSlice (old : Tables) (left : Left) (before after : End) : Type 0
       after.unsent ++ unmade_at old after.unmade ≡ unmade_at old before.unmade
   pub unmade : MayBeUnmade old before.unmade → MayBeUnmade old after.unmade
 
+-- Rows are to be gone over for the next line, which isn't taken yet; nothing else was done.
+pub record Begins (before after : End) : Type 0 where
+  pub held : after.held ≡ before.held
+  pub unsent : after.unsent ≡ before.unsent
+  pub taken : after.taken ≡ before.taken
+  pub rest : (t : Tables) → unmade_at t after.unmade ≡ unmade_at t before.unmade
+  pub unmade : (t : Tables) → MayBeUnmade t after.unmade
+
 module _ (may_give : ℕ → Type 0) (serving : Serving) (old : Tables) (left : Left) where
   -- nothing was taken, and a stop leaves the tables as they are
   pub record WaitsOn (before after : End) : Type 0 where
@@ -99,14 +108,21 @@ module _ (may_give : ℕ → Type 0) (serving : Serving) (old : Tables) (left : 
     pub shows : Shows serving asked
     pub tables : left.tables ≡ tables_behind old asked
     pub stop : LeavesAll left old (events_asked old asked)
-    pub answers : after.unsent ++ unmade_at left.tables after.unmade
-        ≡ answer_of old after.taken asked
-    pub unmade : MayBeUnmade left.tables after.unmade
+    pub answers : MayBeUnmade old before.unmade →
+        after.unsent ++ unmade_at left.tables after.unmade ≡ answer_of old after.taken asked
+    pub unmade : MayBeUnmade old before.unmade → MayBeUnmade left.tables after.unmade
     pub count : after.taken ≡ before.taken + 1
+
+  -- rows are to be gone over for the next line, and nothing was taken
+  pub record PreparesLine (before after : End) : Type 0 where
+    pub tables : left.tables ≡ old
+    pub stop : LeavesAll left old []
+    pub begins : Begins before after
 
   -- one turn
   abbrev pub Steps : End → End → Result ControlTurn BookFault → Type 0
   Steps before after (Ok Waits) = WaitsOn before after × IsInLine before.held.kept
+  Steps before after (Ok Prepares) = PreparesLine before after
   Steps before after (Ok (Took wish)) =
       (asked : Option Question) × TakesLine before after asked × (wish_of asked ≡ wish)
   Steps before after (Err f) = RefusesLine old left

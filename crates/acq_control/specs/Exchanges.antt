@@ -13,13 +13,13 @@ use Rattle.acq_control.specs.Questions.{Shows, wish_of}
 use Rattle.acq_control.specs.Answers.{events_asked, tables_behind}
 use Rattle.acq_control.specs.Log.{Act, FollowsActs, asked_by, behind_acts}
 use Rattle.acq_control.specs.Ends as turns
-use Rattle.acq_control.specs.Unmade.{MayBeUnmade, unmade_at}
-use Rattle.acq_control.specs.declared.clearing_answer.ClearingAnswer.{ClearingAnswer}
+use Rattle.acq_control.specs.Unmade.{MayBeUnmade, is_said, unmade_at}
 use Rattle.acq_control.specs.declared.control_exchange.ControlExchange.{ControlExchange}
 use Rattle.acq_control.specs.declared.control_round.ControlRound.{ControlRound}
 use Rattle.acq_control.specs.declared.control_round.ControlRound.TheVariants.{Ended, GoesOn, Took}
 use Rattle.acq_control.specs.declared.control_round.ControlRound.TheVariants.{Waits}
 use Rattle.acq_control.specs.declared.question.Question.{Question}
+use Rattle.acq_control.specs.declared.unmade_answer.UnmadeAnswer.{UnmadeAnswer}
 use Rattle.acq_control.specs.declared.wish.Wish.{Wish}
 
 -- what passed over a connection so far
@@ -31,7 +31,7 @@ pub record Passed : Type 0 where
   -- be made
   pub went : List ℕ
   pub unsent : List ℕ
-  pub unmade : Option ClearingAnswer
+  pub unmade : Option UnmadeAnswer
   -- how many lines were taken
   pub taken : ℕ
 
@@ -45,7 +45,7 @@ module _ {L : Type 0} where
   abbrev pub unsent_of : ControlExchange L → List ℕ
   unsent_of e = turns.unsent_of e.conversation
 
-  abbrev pub unmade_of : ControlExchange L → Option ClearingAnswer
+  abbrev pub unmade_of : ControlExchange L → Option UnmadeAnswer
   unmade_of e = turns.unmade_of e.conversation
 
   abbrev pub taken_of : ControlExchange L → ℕ
@@ -88,10 +88,10 @@ tells_end other = false
 -- Where the connection ended: at its own end nothing is held, and nothing is still to be written
 -- or made; else the beginning of a line is held, behind which the input ended. No line is too long
 -- for it.
-abbrev pub EndsWith : Held → List ℕ → Option ClearingAnswer → Result ControlRound FrontFault
+abbrev pub EndsWith : Held → List ℕ → Option UnmadeAnswer → Result ControlRound FrontFault
     → Type 0
 EndsWith held unsent unmade (Ok Ended) =
-    (is_nothing held ≡ true) × (unsent ≡ []) × (unmade ≡ None)
+    (is_nothing held ≡ true) × (unsent ≡ []) × (is_said unmade ≡ true)
 EndsWith held unsent unmade (Err fault.BadLength) = ⊥
 EndsWith held unsent unmade (Err fault.Ended) = IsInLine held.kept × (is_nothing held ≡ false)
 EndsWith held unsent unmade (Err (fault.Undecodable f)) = ⊥

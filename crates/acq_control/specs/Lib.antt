@@ -1,8 +1,10 @@
 pub mod Lines
 pub mod Held
+pub mod FindLines
 pub mod Questions
 pub mod Answers
 pub mod Unmade
+pub mod Found
 pub mod Doing
 pub mod Log
 pub mod Ends

@@ -18,6 +18,7 @@ use Rattle.acq_directory.specs.Listings.{listing_named}
 use Rattle.acq_status.specs.declared.serving.Serving.{Serving}
 use Rattle.acq_status.specs.declared.status_form.StatusForm.{StatusForm}
 use Rattle.acq_status.specs.declared.status_form.StatusForm.TheVariants as form
+use Rattle.acq_control.specs.FindLines.{AsksFind, comma_in}
 use Rattle.acq_control.specs.Lines.{longest_line}
 use Rattle.acq_control.specs.declared.question.Question.{Question}
 use Rattle.acq_control.specs.declared.question.Question.TheVariants as question
@@ -36,6 +37,7 @@ word_of line =
     else if begins_with line (codes "clearing,") then word.Clearing
     else if begins_with line (codes "report,") then word.Report
     else if begins_with line (codes "sums,") then word.Sums
+    else if begins_with line (codes "find,") then word.Find
     else if begins_with line (codes "holds,") then word.Holds
     else if begins_with line (codes "pending,") then word.Pending
     else if begins_with line (codes "explain,") then word.Explain
@@ -53,6 +55,7 @@ word_length word.Pending = 8
 word_length word.Explain = 8
 word_length word.Report = 7
 word_length word.Sums = 5
+word_length word.Find = 5
 word_length word.Holds = 6
 word_length word.List = 5
 word_length word.End = 4
@@ -190,6 +193,12 @@ holds_about now text (Some comma) =
 abbrev pub holds_of : ℕ → List ℕ → Option Question
 holds_of now text = holds_about now text (position (λ byte. byte == 44) text)
 
+-- what became of requests
+abbrev pub AsksFound : List ℕ → Option Question → Type 0
+AsksFound text (Some (question.Find sought)) = AsksFind text (comma_in text) (Some sought)
+AsksFound text None = AsksFind text (comma_in text) None
+AsksFound text (Some other) = ⊥
+
 -- ---- any line
 
 -- what is asked of those who serve the connection
@@ -205,6 +214,7 @@ AsksBy word.Clearing now line asked = AsksReport report.Clearing (drop 9 line) a
 AsksBy word.Report now line asked =
     AsksSettlement (drop 7 line) (position (λ byte. byte == 44) (drop 7 line)) asked
 AsksBy word.Sums now line asked = AsksSums (drop 5 line) asked
+AsksBy word.Find now line asked = AsksFound (drop 5 line) asked
 AsksBy word.Holds now line asked = asked ≡ holds_of now (drop 6 line)
 AsksBy word.Pending now line asked = AsksPending now (drop 8 line) asked
 AsksBy word.Explain now line asked = AsksExplained now (drop 8 line) asked

@@ -1,5 +1,7 @@
--- What of an answer is still to be made. That is so of a clearing file, which is said in slices.
-use Rattle.std.specs.Prelude.{◌≡◌, ◌+◌, ℕ, List, [], ◌++◌, length, Option, Some, None}
+-- What of an answer is still to be made, slice by slice: the rest of a clearing file; or rows that
+-- are gone over before the line that asks for them is taken, of which nothing is said yet.
+use Rattle.std.specs.Prelude.{◌≡◌, ◌+◌, ℕ, Bool, true, false, List, [], ◌++◌, length, Option}
+use Rattle.std.specs.Prelude.{Some, None}
 use Rattle.acq_link.specs.MemorySink.{sent_of}
 use Rattle.acq_core.specs.Tables.{Tables}
 use Rattle.acq_reports.specs.Refusals.{day_refusal}
@@ -10,8 +12,11 @@ use Rattle.acq_control.specs.Answers.{answer_of, text_answer}
 use Rattle.acq_control.specs.declared.clearing_answer.ClearingAnswer.{ClearingAnswer}
 use Rattle.acq_control.specs.declared.clearing_stage.ClearingStage.{ClearingStage}
 use Rattle.acq_control.specs.declared.clearing_stage.ClearingStage.TheVariants.{Counting, Saying}
+use Rattle.acq_inquiry.specs.Searching.{IsSearched}
 use Rattle.acq_control.specs.declared.question.Question.{Question}
 use Rattle.acq_control.specs.declared.said.Said.{Said}
+use Rattle.acq_control.specs.declared.unmade_answer.UnmadeAnswer.{UnmadeAnswer}
+use Rattle.acq_control.specs.declared.unmade_answer.UnmadeAnswer.TheVariants.{Clearing, Finding}
 
 -- the file of a day, of which nothing is made yet
 abbrev pub at_first : ℕ → ClearingAnswer
@@ -22,9 +27,16 @@ abbrev pub rest_of : Tables → ℕ → ClearingStage → List ℕ
 rest_of t day (Counting from bytes) = text_answer (clearing_text t day)
 rest_of t day (Saying from) = file_from t day from
 
-abbrev pub unmade_at : Tables → Option ClearingAnswer → List ℕ
+abbrev pub unmade_at : Tables → Option UnmadeAnswer → List ℕ
 unmade_at t None = []
-unmade_at t (Some c) = rest_of t c.day c.stage
+unmade_at t (Some (Clearing c)) = rest_of t c.day c.stage
+unmade_at t (Some (Finding search)) = []
+
+-- whatever was begun to be said is made, so that a line may be taken
+abbrev pub is_said : Option UnmadeAnswer → Bool
+is_said None = true
+is_said (Some (Clearing c)) = false
+is_said (Some (Finding search)) = true
 
 -- so many bytes are those in front of the bookmark
 abbrev pub IsCounted : Tables → ℕ → ClearingStage → Type 0
@@ -37,17 +49,18 @@ pub record IsUnmade (t : Tables) (c : ClearingAnswer) : Type 0 where
   pub given : day_refusal t c.day ≡ None
   pub counted : IsCounted t c.day c.stage
 
-abbrev pub MayBeUnmade : Tables → Option ClearingAnswer → Type 0
+abbrev pub MayBeUnmade : Tables → Option UnmadeAnswer → Type 0
 MayBeUnmade t None = Unit {0}
-MayBeUnmade t (Some c) = IsUnmade t c
+MayBeUnmade t (Some (Clearing c)) = IsUnmade t c
+MayBeUnmade t (Some (Finding search)) = IsSearched t search
 
 -- what is said next, and behind it what is then still to be made, is what was still to be made
-pub record GoesOn (t : Tables) (c : ClearingAnswer) (said : Said) : Type 0 where
-  pub whole : sent_of said.text ++ unmade_at t said.unmade ≡ rest_of t c.day c.stage
+pub record GoesOn (t : Tables) (rest : List ℕ) (said : Said) : Type 0 where
+  pub whole : sent_of said.text ++ unmade_at t said.unmade ≡ rest
   pub unmade : MayBeUnmade t said.unmade
 
 -- a text was put behind others, whose rest is still to be made over the tables now
-pub record Puts (now : Tables) (old new text : List ℕ) (unmade : Option ClearingAnswer) : Type 0
+pub record Puts (now : Tables) (old new text : List ℕ) (unmade : Option UnmadeAnswer) : Type 0
   where
     pub whole : new ++ unmade_at now unmade ≡ old ++ text
     pub may : MayBeUnmade now unmade

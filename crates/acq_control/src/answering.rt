@@ -16,22 +16,26 @@ ghost use Rattle.acq_reports.specs.declared.report_fault.ReportFault as report_f
 ghost use Rattle.acq_clearing.specs.ClearingFile.{clearing_text};
 ghost use Rattle.acq_faults.specs.DayReport.{report_text};
 ghost use Rattle.acq_faults.specs.Faults.{fault_line, of_report};
+ghost use Rattle.acq_inquiry.specs.InquiryTexts.{inquiry_text};
 ghost use Rattle.acq_stand_in.specs.Pending.{pending_text};
 ghost use Rattle.acq_statement.specs.ReportCsv.{report_csv};
 ghost use Rattle.acq_control.specs.Answers.{answer_of, answer_to_end, heading_of, text_answer};
 ghost use Rattle.acq_control.specs.Answers.{text_unless_refused};
 ghost use Rattle.acq_control.specs.Doing.{Does, DoesSome, IsRefusal, IsSettled, TellsAs};
 ghost use Rattle.acq_control.specs.Doing.{TellsStore};
-ghost use Rattle.acq_control.specs.Unmade.{Puts, Says};
+ghost use Rattle.acq_control.specs.Unmade.{MayBeUnmade, Puts, Says};
 ghost use Rattle.acq_control.specs.declared.question.Question.TheVariants as question;
 
 use crate::clearing_answer::ClearingAnswer;
+use crate::found::Found;
 use crate::list_text::ListText;
 use crate::pending_text::PendingText;
 use crate::question::Question;
 use crate::said::Said;
+use crate::sought::Sought;
 use crate::status_text::StatusText;
 use crate::sums_text::SumsText;
+use crate::unmade_answer::UnmadeAnswer;
 use acq_book::{Book, BookFault};
 use acq_core::{Event, MerchantId, Moment};
 use acq_explain::Explained;
@@ -45,21 +49,24 @@ use day_totals::Day;
 use itoa::Buffer;
 use std::alloc::Global;
 
-/// Does what the line of this number asks, and returns what is said to it.
+/// Does what the line of this number asks, for which rows may have been gone over, and returns what
+/// is said to it.
 pub(crate) fn answer_to<B: Book + Drop>(
     alloc: Global,
     host: &mut Host<B>,
     number: u64,
     asked: Option<Question>,
+    prepared: &Option<UnmadeAnswer>,
 ) -> Result<Said, BookFault>
-    ensures answers { B.is_honest host.new → B.is_open host.old → IfOk result
+    ensures answers { B.is_honest host.new → B.is_open host.old
+        → MayBeUnmade (B.tables host.old) prepared.now → IfOk result
         (Says (B.tables host.old) (B.tables host.new) number asked) }
     ensures does { OnOk result (Does B.Book host.old host.new asked true) }
     ensures refused { OnErr result (DoesSome B.Book host.old host.new asked) }
     ensures store { TellsStore B.Book host.old host.new result }
 {
     let mut text = MemorySink::new(alloc);
-    let put = put_answer(alloc, host, number, &asked, &mut text);
+    let put = put_answer(alloc, host, number, &asked, prepared, &mut text);
     drop(asked);
     match put {
         Ok(unmade) => Ok(Said { text, unmade }),
@@ -74,9 +81,11 @@ fn put_answer<B: Book + Drop>(
     host: &mut Host<B>,
     number: u64,
     asked: &Option<Question>,
+    prepared: &Option<UnmadeAnswer>,
     answer: &mut MemorySink,
-) -> Result<Option<ClearingAnswer>, BookFault>
-    ensures answers { B.is_honest host.new → B.is_open host.old → IfOk result
+) -> Result<Option<UnmadeAnswer>, BookFault>
+    ensures answers { B.is_honest host.new → B.is_open host.old
+        → MayBeUnmade (B.tables host.old) prepared.now → IfOk result
         (Puts (B.tables host.new) (sent_of answer.old) (sent_of answer.new)
         (answer_of (B.tables host.old) number asked.now)) }
     ensures does { OnOk result (Does B.Book host.old host.new asked.now true) }
@@ -84,7 +93,7 @@ fn put_answer<B: Book + Drop>(
     ensures store { TellsStore B.Book host.old host.new result }
 {
     match asked {
-        Some(question) => put_question(alloc, host, question, answer),
+        Some(question) => put_question(alloc, host, question, prepared, answer),
         None => {
             put_fault(&Fault::BadLine(number), answer)?;
             Ok(None)
@@ -98,10 +107,11 @@ fn put_question<B: Book + Drop>(
     alloc: Global,
     host: &mut Host<B>,
     question: &Question,
+    prepared: &Option<UnmadeAnswer>,
     answer: &mut MemorySink,
-) -> Result<Option<ClearingAnswer>, BookFault>
-    ensures answers { (number : ℕ) → B.is_honest host.new → B.is_open host.old → IfOk result
-        (Puts (B.tables host.new) (sent_of answer.old) (sent_of answer.new)
+) -> Result<Option<UnmadeAnswer>, BookFault>
+    ensures answers { (number : ℕ) → B.is_honest host.new → B.is_open host.old
+        → MayBeUnmade (B.tables host.old) prepared.now → IfOk result (Puts (B.tables host.new) (sent_of answer.old) (sent_of answer.new)
         (answer_of (B.tables host.old) number (Some question.now))) }
     ensures does { OnOk result (Does B.Book host.old host.new (Some question.now) true) }
     ensures refused { OnErr result (DoesSome B.Book host.old host.new (Some question.now)) }
@@ -112,6 +122,7 @@ fn put_question<B: Book + Drop>(
         Question::ReportCsv(day) => put_report_csv(alloc, host, *day, answer)?,
         Question::Sums(day) => put_asked(alloc, host, &SumsText { day: *day }, answer)?,
         Question::Event(event) => put_event(alloc, host, event, answer)?,
+        Question::Find(sought) => put_found(host, *sought, prepared, answer)?,
         Question::Holds(merchant, moment) => put_holds(alloc, host, *merchant, *moment, answer)?,
         Question::Pending(day, moment) => put_pending(alloc, host, *day, *moment, answer)?,
         Question::Explain(event) => put_asked(alloc, host, &Explained { event }, answer)?,
@@ -182,7 +193,7 @@ fn put_report<B: Book + Drop>(
     host: &mut Host<B>,
     asked: DayReport,
     answer: &mut MemorySink,
-) -> Result<Option<ClearingAnswer>, BookFault>
+) -> Result<Option<UnmadeAnswer>, BookFault>
     ensures answers { B.is_honest host.new → B.is_open host.old → IfOk result
         (Puts (B.tables host.new) (sent_of answer.old) (sent_of answer.new)
         (text_unless_refused (day_refusal (B.tables host.old) asked.day)
@@ -205,7 +216,7 @@ fn begin_clearing<B: Book + Drop>(
     host: &mut Host<B>,
     day: Day,
     answer: &mut MemorySink,
-) -> Result<Option<ClearingAnswer>, BookFault>
+) -> Result<Option<UnmadeAnswer>, BookFault>
     ensures answers { B.is_honest host.new → B.is_open host.old → IfOk result
         (Puts (B.tables host.new) (sent_of answer.old) (sent_of answer.new)
         (text_unless_refused (day_refusal (B.tables host.old) day)
@@ -215,7 +226,7 @@ fn begin_clearing<B: Book + Drop>(
     ensures store { TellsStore B.Book host.old host.new result }
 {
     match host.check_day(day) {
-        Ok(()) => Ok(Some(ClearingAnswer::of(day))),
+        Ok(()) => Ok(Some(UnmadeAnswer::Clearing(ClearingAnswer::of(day)))),
         Err(fault) => {
             put_refusal(fault, answer)?;
             Ok(None)
@@ -259,6 +270,32 @@ fn put_report_csv<B: Book + Drop>(
     let mut text = MemorySink::new(alloc);
     let made = host.write_report_csv(day, &mut text);
     put_text(made, text.as_bytes(), answer)
+}
+
+/// Puts what became of requests, or why that is refused.
+fn put_found<B: Book + Drop>(
+    host: &mut Host<B>,
+    sought: Sought,
+    prepared: &Option<UnmadeAnswer>,
+    answer: &mut MemorySink,
+) -> Result<(), BookFault>
+    ensures answers { B.is_honest host.new → B.is_open host.old
+        → MayBeUnmade (B.tables host.old) prepared.now → OnOk result (sent_of answer.new
+        ≡ sent_of answer.old ++ text_unless_refused
+        (merchant_refusal (B.tables host.old) sought.merchant)
+        (inquiry_text (B.tables host.old) sought.merchant sought.inquiry)) }
+    ensures does { OnOk result (Looks B.Book host.old host.new true) }
+    ensures refused { OnErr result ((done : Bool) × Looks B.Book host.old host.new done) }
+    ensures store { TellsStore B.Book host.old host.new result }
+{
+    let asked = Found {
+        sought,
+        unmade: prepared,
+    };
+    match host.look(&asked)? {
+        Some(text) => put_whole(text.as_slice(), answer),
+        None => put_refusal(ReportFault::NoSuchMerchant, answer),
+    }
 }
 
 /// Puts the open holds of a merchant, or why they are refused.

@@ -3,11 +3,12 @@
 ghost use Rattle.std.specs.Prelude.{◌≡◌, is_ok, IfOk};
 ghost use Rattle.acq_book.specs.Calls.{Looks};
 ghost use Rattle.acq_book.specs.Promise.{CountsFault};
-ghost use Rattle.acq_control.specs.Unmade.{GoesOn, IsUnmade, at_first};
+ghost use Rattle.acq_control.specs.Unmade.{GoesOn, IsUnmade, at_first, rest_of};
 
 use crate::answering::{put, put_heading};
 use crate::clearing_stage::ClearingStage;
 use crate::said::Said;
+use crate::unmade_answer::UnmadeAnswer;
 use acq_book::{Book, BookFault};
 use acq_clearing::Bookmark;
 use acq_host::Host;
@@ -43,7 +44,8 @@ impl ClearingAnswer {
     ) -> Result<Said, BookFault>
         ensures goes { B.is_honest host.new → B.is_open host.old
             → IsUnmade (B.tables host.old) self.now
-            → IfOk result (GoesOn (B.tables host.old) self.now) }
+            → IfOk result (GoesOn (B.tables host.old)
+            (rest_of (B.tables host.old) self.now.day self.now.stage)) }
         ensures looks { Looks B.Book host.old host.new (is_ok result) }
         ensures store { CountsFault result (B.failures host.old) (B.failures host.new) }
     {
@@ -64,7 +66,8 @@ impl ClearingAnswer {
         requires { self.now.stage ≡ ClearingStage.Counting from bytes }
         ensures goes { B.is_honest host.new → B.is_open host.old
             → IsUnmade (B.tables host.old) self.now
-            → IfOk result (GoesOn (B.tables host.old) self.now) }
+            → IfOk result (GoesOn (B.tables host.old)
+            (rest_of (B.tables host.old) self.now.day self.now.stage)) }
         ensures looks { Looks B.Book host.old host.new (is_ok result) }
         ensures store { CountsFault result (B.failures host.old) (B.failures host.new) }
     {
@@ -82,10 +85,10 @@ impl ClearingAnswer {
         };
         Ok(Said {
             text,
-            unmade: Some(ClearingAnswer {
+            unmade: Some(UnmadeAnswer::Clearing(ClearingAnswer {
                 day: self.day,
                 stage,
-            }),
+            })),
         })
     }
 
@@ -99,7 +102,8 @@ impl ClearingAnswer {
         requires { self.now.stage ≡ ClearingStage.Saying from }
         ensures goes { B.is_honest host.new → B.is_open host.old
             → IsUnmade (B.tables host.old) self.now
-            → IfOk result (GoesOn (B.tables host.old) self.now) }
+            → IfOk result (GoesOn (B.tables host.old)
+            (rest_of (B.tables host.old) self.now.day self.now.stage)) }
         ensures looks { Looks B.Book host.old host.new (is_ok result) }
         ensures store { CountsFault result (B.failures host.old) (B.failures host.new) }
     {
@@ -108,10 +112,10 @@ impl ClearingAnswer {
         put(slice.text.as_slice(), &mut text)?;
         let unmade = match &slice.next {
             Bookmark::End => None,
-            next => Some(ClearingAnswer {
+            next => Some(UnmadeAnswer::Clearing(ClearingAnswer {
                 day: self.day,
                 stage: ClearingStage::Saying(*next),
-            }),
+            })),
         };
         Ok(Said { text, unmade })
     }

@@ -1,7 +1,7 @@
 //! One end of a control connection, without its reads and writes.
 
 ghost use Rattle.std.specs.Prelude.{◌≡◌, ◌+◌, ◌<◌, ◌≤◌, ℕ, [], length, drop, None, Ok, OnErr, OnOk};
-ghost use Rattle.std.specs.Prelude.{is_some};
+ghost use Rattle.std.specs.Prelude.{false, true};
 ghost use Rattle.acq_front.specs.Stops.{left_of};
 ghost use Rattle.acq_control.specs.Doing.{TellsStore};
 ghost use Rattle.acq_control.specs.Lines.{IsInLine, longest_line};
@@ -10,11 +10,12 @@ ghost use Rattle.acq_control.specs.Questions.{wish_of};
 ghost use Rattle.acq_control.specs.declared.control_turn.ControlTurn.TheVariants.{Waits};
 
 use crate::answering::answer_to;
-use crate::clearing_answer::ClearingAnswer;
 use crate::control_input::ControlInput;
 use crate::control_turn::ControlTurn;
+use crate::find_line::search_in_front;
 use crate::question::Question;
 use crate::reading::question_in;
+use crate::unmade_answer::UnmadeAnswer;
 use crate::wish::Wish;
 use acq_book::{Book, BookFault};
 use acq_front::Clock;
@@ -37,7 +38,7 @@ pub struct ControlConversation {
     /// How many bytes of the answer were written in front of that.
     gone_before: u64,
     /// What of the answer is still to be made.
-    unmade: Option<ClearingAnswer>,
+    unmade: Option<UnmadeAnswer>,
     /// How many lines were taken.
     taken: u64,
     ghost within: { gone ≤ length answer.bytes.items },
@@ -45,7 +46,8 @@ pub struct ControlConversation {
 
 impl ControlConversation {
     ghost use Rattle.acq_control.specs.Ends.{Steps, end_of, gone_of, held_of, taken_of};
-    ghost use Rattle.acq_control.specs.Ends.{MakesSlice, RefusesLine, unmade_of, unsent_of};
+    ghost use Rattle.acq_control.specs.Ends.{Begins, MakesSlice, RefusesLine, unmade_of, unsent_of};
+    ghost use Rattle.acq_control.specs.Unmade.{is_said};
 
     /// Nothing came yet, and nothing is to be written.
     pub fn new(alloc: Global) -> ControlConversation
@@ -124,11 +126,24 @@ impl ControlConversation {
         self.gone_before.saturating_add(self.gone as u64)
     }
 
-    /// Whether more of the answer is still to be made.
-    pub fn is_making(&self) -> bool
-        ensures { result ≡ is_some (unmade_of self.now) }
+    /// Whether whatever was begun to be said is made.
+    pub fn is_said(&self) -> bool
+        ensures { result ≡ is_said (unmade_of self.now) }
     {
-        self.unmade.is_some()
+        match &self.unmade {
+            Some(UnmadeAnswer::Clearing(_)) => false,
+            _ => true,
+        }
+    }
+
+    /// Whether a slice is to be made before the next turn.
+    pub fn is_making(&self) -> bool
+        ensures { result ≡ false → is_said (unmade_of self.now) ≡ true }
+    {
+        match &self.unmade {
+            Some(unmade) => unmade.goes_on(),
+            None => false,
+        }
     }
 
     /// So many bytes of it were written.
@@ -163,10 +178,10 @@ impl ControlConversation {
             → OnOk result (B.is_open host.new) }
         ensures store { TellsStore B.Book host.old host.new result }
     {
-        let Some(unmade) = self.unmade else {
-            return Ok(());
+        let said = match &self.unmade {
+            Some(unmade) => unmade.go_on(alloc, host)?,
+            None => return Ok(()),
         };
-        let said = unmade.go_on(alloc, host)?;
         self.gone_before = self.gone_of_all();
         self.gone = 0;
         self.answer = said.text;
@@ -175,7 +190,7 @@ impl ControlConversation {
     }
 
     /// Has the host do what the next line asks, if one is whole, while so much is served; what is
-    /// said to it is then to be written.
+    /// said to it is then to be written. Where rows are to be gone over for it, they are first.
     pub fn turn<B: Book + Drop, C: Clock>(
         &mut self,
         alloc: Global,
@@ -184,7 +199,7 @@ impl ControlConversation {
         serving: Serving,
     ) -> Result<ControlTurn, BookFault>
         requires written { unsent_of self.old ≡ [] }
-        requires made { unmade_of self.old ≡ None }
+        requires made { is_said (unmade_of self.old) ≡ true }
         ensures steps { B.is_honest host.new → B.is_open host.old
             → Steps (C.may_give clock.old) serving (B.tables host.old) (left_of B.Book host.new)
             (end_of self.old) (end_of self.new) result }
@@ -201,6 +216,9 @@ impl ControlConversation {
         ensures given_later { (m : ℕ) → C.may_give clock.new m → C.may_give clock.old m }
         ensures store { TellsStore B.Book host.old host.new result }
     {
+        if self.begin_search(alloc) {
+            return Ok(ControlTurn::Prepares);
+        }
         let Some(line) = self.input.take_line(alloc)? else {
             return Ok(ControlTurn::Waits);
         };
@@ -209,13 +227,32 @@ impl ControlConversation {
         };
         let asked = question_in(alloc, &line, clock.now(), serving)?;
         let wish = wish_of(&asked);
-        let said = answer_to(alloc, host, number, asked)?;
+        let said = answer_to(alloc, host, number, asked, &self.unmade)?;
         self.taken = number;
         self.gone = 0;
         self.gone_before = 0;
         self.answer = said.text;
         self.unmade = said.unmade;
         Ok(ControlTurn::Took(wish))
+    }
+
+    /// Begins the search that the line in front asks for, if it asks for one and none is begun;
+    /// returns whether it did.
+    fn begin_search(&mut self, alloc: Global) -> bool
+        requires made { is_said (unmade_of self.old) ≡ true }
+        ensures begins { result ≡ true → Begins (end_of self.old) (end_of self.new) }
+        ensures same { result ≡ false → end_of self.new ≡ end_of self.old }
+    {
+        if self.unmade.is_some() {
+            return false;
+        }
+        match search_in_front(alloc, self.input.front()) {
+            Some(search) => {
+                self.unmade = Some(UnmadeAnswer::Finding(search));
+                true
+            }
+            None => false,
+        }
     }
 }
 

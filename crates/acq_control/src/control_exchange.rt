@@ -1,7 +1,7 @@
 //! Control connections whose lines don't wait.
 
 ghost use Rattle.std.specs.Prelude.{◌≡◌, ◌≢◌, ◌==◌, ◌+◌, ◌++◌, ℕ, List, [], false, length, not};
-ghost use Rattle.std.specs.Prelude.{◌||◌, None, Ok, drop, is_some, take};
+ghost use Rattle.std.specs.Prelude.{◌||◌, None, Ok, drop, take, true};
 ghost use Rattle.acq_front.specs.Faults.{IfStore, TellsStore, UnlessRefused};
 ghost use Rattle.acq_front.specs.Faults.{failed_reads, failed_writes};
 ghost use Rattle.acq_front.specs.Stops.{left_of};
@@ -11,6 +11,7 @@ ghost use Rattle.acq_control.specs.Exchanges.{EndsWith, Goes, IfRefused, Moves, 
 ghost use Rattle.acq_control.specs.Exchanges.{IsSilent, tells_end};
 ghost use Rattle.acq_control.specs.Exchanges.{held_of, taken_of, unmade_of, unsent_of};
 ghost use Rattle.acq_control.specs.Ends.{RefusesLine};
+ghost use Rattle.acq_control.specs.Unmade.{is_said};
 ghost use Rattle.acq_control.specs.declared.control_round.ControlRound.TheVariants.{Took};
 ghost use Rattle.acq_control.specs.declared.wish.Wish.{Wish};
 
@@ -76,12 +77,12 @@ impl<L: Line> ControlExchange<L> {
         self.conversation.gone_of_all()
     }
 
-    /// Whether something is still to be written, or to be made.
+    /// Whether something of an answer is still to be written, or to be made.
     pub fn is_answering(&self) -> bool
         ensures { result
-            ≡ (not (length (unsent_of self.now) == 0) || is_some (unmade_of self.now)) }
+            ≡ (not (length (unsent_of self.now) == 0) || not (is_said (unmade_of self.now))) }
     {
-        !self.conversation.unsent().is_empty() || self.conversation.is_making()
+        !self.conversation.unsent().is_empty() || !self.conversation.is_said()
     }
 
     /// One round: writes on what is to be written; or else makes a slice of what is still to be
@@ -134,6 +135,7 @@ impl<L: Line> ControlExchange<L> {
         }
         match self.conversation.turn(alloc, host, clock, serving)? {
             ControlTurn::Took(wish) => Ok(ControlRound::Took(wish)),
+            ControlTurn::Prepares => Ok(ControlRound::Made),
             ControlTurn::Waits => self.receive(),
         }
     }
@@ -176,7 +178,7 @@ impl<L: Line> ControlExchange<L> {
     fn receive(&mut self) -> Result<ControlRound, FrontFault>
         requires within { IsInLine (held_of self.old).kept }
         requires written { unsent_of self.old ≡ [] }
-        requires made { unmade_of self.old ≡ None }
+        requires made { is_said (unmade_of self.old) ≡ true }
         ensures received { (piece : List ℕ)
             × (L.received (line_of self.new) ≡ L.received (line_of self.old) ++ piece)
             × HoldsMore (held_of self.old) (held_of self.new) piece }

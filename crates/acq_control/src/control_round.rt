@@ -7,7 +7,7 @@ use crate::wish::Wish;
 pub enum ControlRound {
     /// It wrote, or read: there may be more to do.
     GoesOn,
-    /// It made a slice of an answer: there is more to do.
+    /// It made a slice of an answer, or went over rows for one: there is more to do.
     Made,
     /// It did what a line asks, which has this wish.
     Took(Wish),

@@ -7,6 +7,8 @@ use crate::wish::Wish;
 pub enum ControlTurn {
     /// No line is whole.
     Waits,
+    /// Rows are gone over before the next line is taken.
+    Prepares,
     /// A line was taken, with this wish, and what is said to it is to be written.
     Took(Wish),
 }

@@ -1,5 +1,6 @@
 //! What a line of a control connection asks.
 
+use crate::sought::Sought;
 use acq_core::{Event, MerchantId, Moment};
 use acq_directory::Listing;
 use acq_faults::DayReport;
@@ -17,6 +18,8 @@ pub enum Question {
     ReportCsv(Day),
     /// The sums of a day by currency.
     Sums(Day),
+    /// What became of a merchant's requests.
+    Find(Sought),
     /// The open holds of a merchant at a moment.
     Holds(MerchantId, Moment),
     /// Answers without a verdict to the requests of a day that wait for their issuer, given at a

@@ -10,6 +10,7 @@ pub(crate) enum QuestionWord {
     Clearing,
     Report,
     Sums,
+    Find,
     Holds,
     Pending,
     Explain,
@@ -35,6 +36,8 @@ impl QuestionWord {
             QuestionWord::Report
         } else if line.starts_with(b"sums,") {
             QuestionWord::Sums
+        } else if line.starts_with(b"find,") {
+            QuestionWord::Find
         } else if line.starts_with(b"holds,") {
             QuestionWord::Holds
         } else if line.starts_with(b"pending,") {
@@ -65,7 +68,7 @@ impl QuestionWord {
             QuestionWord::Pending | QuestionWord::Explain => 8,
             QuestionWord::Report => 7,
             QuestionWord::Holds => 6,
-            QuestionWord::Sums | QuestionWord::List => 5,
+            QuestionWord::Sums | QuestionWord::Find | QuestionWord::List => 5,
             QuestionWord::End => 4,
             _ => 0,
         }

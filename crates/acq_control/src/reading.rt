@@ -5,12 +5,13 @@ ghost use Rattle.std.specs.List.{position};
 ghost use Rattle.acq_control.specs.Questions.{Asks, AsksEnd, AsksEvent, AsksExplained};
 ghost use Rattle.acq_control.specs.Questions.{AsksPending, AsksReport, AsksReportCsv};
 ghost use Rattle.acq_control.specs.Questions.{AsksSettlement, AsksSums, frame_line};
-ghost use Rattle.acq_control.specs.Questions.{AsksShort, Shows, at_moment, holds_of, list_of, moment_at};
+ghost use Rattle.acq_control.specs.Questions.{AsksFound, AsksShort, Shows, at_moment, holds_of, list_of, moment_at};
 ghost use Rattle.acq_control.specs.Questions.{says_now, without_return};
 ghost use Rattle.acq_control.specs.Held.{IsTaken};
 ghost use Rattle.acq_control.specs.Questions as spec;
 ghost use Rattle.acq_status.specs.declared.serving.Serving.{Serving};
 
+use crate::find_line::sought_of;
 use crate::question::Question;
 use crate::question_word::QuestionWord;
 use crate::taken_line::TakenLine;
@@ -67,6 +68,7 @@ fn question_of(
         QuestionWord::Clearing => Ok(report_on(ReportKind::Clearing, rest)),
         QuestionWord::Report => Ok(settlement_of(rest)),
         QuestionWord::Sums => Ok(sums_on(rest)),
+        QuestionWord::Find => Ok(find_of(rest)),
         QuestionWord::Holds => Ok(holds_of(rest, now)),
         QuestionWord::Pending => Ok(pending_on(rest, now)),
         QuestionWord::Explain => explained_of(alloc, rest, now),
@@ -80,7 +82,7 @@ fn question_of(
 }
 
 /// A line without the carriage return before its end, if one stands there.
-fn without_return(line: &[u8]) -> &[u8]
+pub(crate) fn without_return(line: &[u8]) -> &[u8]
     ensures { result.now ≡ without_return line.entry.now }
 {
     if line.ends_with(b"\r") {
@@ -168,6 +170,14 @@ fn holds_of(text: &[u8], now: Moment) -> Option<Question>
     Some(Question::Holds(merchant, moment))
 }
 
+/// What is to be found, by the text behind the word.
+fn find_of(text: &[u8]) -> Option<Question>
+    ensures asks { AsksFound text.now result }
+    ensures shows { (serving : Serving) → Shows serving result }
+{
+    Some(Question::Find(sought_of(text)?))
+}
+
 /// The listing of this name.
 fn list_of(name: &[u8]) -> Option<Question>
     ensures list { result ≡ list_of name.now }
@@ -177,7 +187,7 @@ fn list_of(name: &[u8]) -> Option<Question>
 }
 
 /// Where the first comma stands, if one does.
-fn comma_in(text: &[u8]) -> Option<usize>
+pub(crate) fn comma_in(text: &[u8]) -> Option<usize>
     ensures { result ≡ position (λ byte. byte == 44) text.now }
 {
     text.iter().position(|byte| *byte == b',')

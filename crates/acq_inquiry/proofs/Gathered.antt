@@ -41,7 +41,7 @@ module _ {Row V X : Type 0} (sees : V → Row → Bool → V → Type 0) (items 
       absurd (true≢false (sym (short v row w seen) ∙ whole))
 
 -- what the rows that pass two tests add
-given_twice : {Row X : Type 0} (p q : Row → Bool) (f : Row → List X) (rows : List Row) →
+pub given_twice : {Row X : Type 0} (p q : Row → Bool) (f : Row → List X) (rows : List Row) →
     flat_map (λ row. cond (p row && q row) (f row) []) rows ≡ flat_map f (filter q (filter p rows))
 given_twice p q f [] = refl
 given_twice p q f (row ∷ rows) =
@@ -59,7 +59,7 @@ given_twice p q f (row ∷ rows) =
     ]
 
 -- the rows themselves
-each_alone : {Row : Type 0} (rows : List Row) → flat_map (λ row. row ∷ []) rows ≡ rows
+pub each_alone : {Row : Type 0} (rows : List Row) → flat_map (λ row. row ∷ []) rows ≡ rows
 each_alone [] = refl
 each_alone (row ∷ rows) = ap (λ xs. row ∷ xs) (each_alone rows)
 

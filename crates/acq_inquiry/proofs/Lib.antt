@@ -1,3 +1,6 @@
 pub mod Gathered
 pub mod OnLiterals
 pub mod InTurn
+pub mod Walked
+pub mod Later
+pub mod Searched

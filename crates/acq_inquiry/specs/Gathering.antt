@@ -1,14 +1,17 @@
 -- What visitors make of a row.
-use Rattle.std.specs.Prelude.{◌≡◌, ℕ, Bool, true, false, ◌&&◌, List, [], ◌∷◌, ◌++◌}
-use Rattle.std.specs.Prelude.{if◌then◌else◌}
+use Rattle.std.specs.Prelude.{◌≡◌, ◌⊎◌, ℕ, ◌+◌, nat_lt, Bool, true, false, ◌&&◌, List, [], ◌∷◌}
+use Rattle.std.specs.Prelude.{◌++◌, if◌then◌else◌, Option, Some, None}
 use Rattle.std.specs.Str.{bytes_eq}
 use Rattle.acq_core.specs.declared.posting.Posting.{Posting}
 use Rattle.acq_core.specs.declared.request.Request.{Request}
 use Rattle.acq_core.specs.Tables.{Tables, requests_of}
 use Rattle.acq_inquiry.specs.declared.found_rows.FoundRows.{FoundRows}
 use Rattle.acq_inquiry.specs.declared.inquiry.Inquiry.{Inquiry}
+use Rattle.acq_inquiry.specs.declared.looking.Looking.{Looking}
 use Rattle.acq_inquiry.specs.declared.posting_lines.PostingLines.{PostingLines}
 use Rattle.acq_inquiry.specs.declared.related.Related.{Related}
+use Rattle.acq_inquiry.specs.declared.rows_at.Copying.{Copying}
+use Rattle.acq_inquiry.specs.declared.seeing.Seeing.{Seeing}
 use Rattle.acq_inquiry.specs.Inquiries.{is_asked, is_found, references_of, related_by}
 use Rattle.acq_inquiry.specs.PostingLines.{posting_line}
 
@@ -52,3 +55,36 @@ PutsPosting old posted true new =
     (new.text.items ≡ old.text.items ++ posting_line old.request.now posted)
     × (new.request ≡ old.request)
 PutsPosting old posted false new = new.is_short ≡ true
+
+-- the place of a request of a merchant, where it is found
+abbrev pub place_if : List ℕ → Inquiry → List ℕ → ℕ → Request → List ℕ
+place_if merchant inquiry references place row =
+    if bytes_eq row.key.merchant merchant && is_found inquiry references row then place ∷ [] else []
+
+-- a walk goes on to its end, if it has one
+abbrev pub goes_on : Option ℕ → ℕ → Bool
+goes_on None place = true
+goes_on (Some end) place = nat_lt place end
+
+-- a row's references are there if it is asked for, or memory ran out
+abbrev pub Sees : Seeing → Request → Bool → Seeing → Type 0
+Sees old row more new =
+    ((new.references.items ≡ old.references.items
+    ++ references_if old.search.now.merchant old.search.now.inquiry row)
+    × (new.seen ≡ old.seen + 1) × (new.end ≡ old.end) × (more ≡ goes_on new.end new.seen)
+    × (new.search ≡ old.search))
+    ⊎ ((new.is_short ≡ true) × (more ≡ false))
+
+-- a row's place is there if it is found, or memory ran out
+abbrev pub LooksAt : Looking → Request → Bool → Looking → Type 0
+LooksAt old row more new =
+    ((new.places.items ≡ old.places.items ++ place_if old.search.now.merchant
+    old.search.now.inquiry old.search.now.references.items old.looked row)
+    × (new.looked ≡ old.looked + 1) × (new.end ≡ old.end) × (more ≡ goes_on new.end new.looked)
+    × (new.search ≡ old.search))
+    ⊎ ((new.is_short ≡ true) × (more ≡ false))
+
+-- a row is there, or memory ran out; no other is wanted
+abbrev pub Copies : Copying → Request → Bool → Copying → Type 0
+Copies old row more new =
+    ((new.rows.items ≡ old.rows.items ++ row ∷ []) ⊎ (new.is_short ≡ true)) × (more ≡ false)

@@ -3,4 +3,5 @@ pub mod RequestLines
 pub mod PostingLines
 pub mod InquiryTexts
 pub mod Gathering
+pub mod Searching
 pub mod Worked

@@ -8,7 +8,7 @@ use acq_reports::content_bytes;
 use day_totals::Day;
 
 /// What is asked for, of a merchant's requests.
-#[derive(Clone, Copy)]
+#[derive(Clone, Copy, PartialEq, Eq)]
 pub enum Inquiry {
     /// The request with this reference.
     Reference(Reference),

@@ -1,14 +1,17 @@
-//! A law of what is written, and inquiries, computed.
+//! Laws of what is written and of what a search finds, and inquiries, computed.
 
 ghost use Rattle.std.specs.Prelude.{◌≡◌, ◌++◌, ℕ, List, Some, codes};
-ghost use Rattle.acq_core.specs.Tables.{Tables};
+ghost use Rattle.acq_core.specs.Tables.{Tables, tables_after};
+ghost use Rattle.acq_core.specs.declared.event.Event.{Event};
 ghost use Rattle.acq_core.specs.declared.request.Request.{Request};
 ghost use Rattle.acq_reports.specs.Worked.{first_merchant, second_merchant};
 ghost use Rattle.acq_show.specs.Hidden.{LookAlike};
 ghost use Rattle.acq_inquiry.specs.InquiryTexts.{inquiry_text, request_text};
+ghost use Rattle.acq_inquiry.specs.Searching.{IsSearched};
 ghost use Rattle.acq_inquiry.specs.Worked.{asked_tables};
 ghost use Rattle.acq_inquiry.specs.declared.inquiry.Inquiry.TheVariants.{CardEnds, Reference};
 ghost use Rattle.acq_inquiry.specs.declared.inquiry.Inquiry.TheVariants.{Trace};
+ghost use Rattle.acq_inquiry.specs.declared.search.Search.{Search};
 
 /// What is written of a request depends on no more of its card number than its length, its first
 /// six and its last four digits.
@@ -16,6 +19,12 @@ pub fn no_card_is_written()
     ensures { (t : Tables) (row : Request) (card other : List ℕ) → LookAlike card other
         → request_text t (record row { card = Some card })
         ≡ request_text t (record row { card = Some other }) }
+{}
+
+/// What a search found stays found, whatever events are taken.
+pub fn what_is_found_stays_found()
+    ensures { (t : Tables) (events : List Event) (search : Search) → IsSearched t search
+        → IsSearched (tables_after t events) search }
 {}
 
 /// A sale that was reversed, by its reference, and by the trace number of its reversal; and a

@@ -6,6 +6,8 @@
 //! the rows, and writes a few lines of each: what it was, its reply, where it stands, and what it
 //! posted. The text is defined over the tables in `specs/InquiryTexts.antt`. No card number is in
 //! it, but for its mask.
+//!
+//! A [`Search`] comes to the same text slice by slice, while events are taken between the slices.
 #![tactic(auto)]
 
 mod asked_words;
@@ -14,12 +16,17 @@ mod inquiry;
 mod inquiry_text;
 pub mod laws;
 mod line_parts;
+mod looking;
 mod posting_lines;
 mod related;
 mod reply_words;
 mod request_lines;
+mod rows_at;
+mod search;
+mod seeing;
 mod standing_line;
 mod writing;
 
 pub use inquiry::Inquiry;
+pub use search::Search;
 pub use writing::write_inquiry;

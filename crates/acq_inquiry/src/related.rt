@@ -69,7 +69,7 @@ impl Visit<Request> for Related {
 }
 
 /// Whether a reference is there, and is one of these.
-fn is_one_of(references: &[Reference], reference: Option<Reference>) -> bool
+pub(crate) fn is_one_of(references: &[Reference], reference: Option<Reference>) -> bool
     ensures { result ≡ is_one_of references.now reference }
 {
     match reference {
@@ -79,7 +79,7 @@ fn is_one_of(references: &[Reference], reference: Option<Reference>) -> bool
 }
 
 /// Puts a reference behind others, where it is there.
-fn push_reference(
+pub(crate) fn push_reference(
     references: &mut Vec<Reference>,
     reference: Option<Reference>,
 ) -> Result<(), AllocError>

@@ -32,9 +32,12 @@ returns-clause-steps g c = λ h o.
     let some = rw c.in-Some.is at c.in_ok-line.ensures.some in
     let takes = taken_asks _ _ c.in-Some.line c.now.result c.in_ok-asked.asked some
     c.in_ok-asked.ensures.asks in
-    line_taken (g.C.Clock.may_give c.args.clock.now) c.args.serving g.B.Book c.args.host.now
+    let same = c.begin_search.ensures.same c.if-begin_search.false in
+    rw (← same)
+    (line_taken (g.C.Clock.may_give c.args.clock.now) c.args.serving g.B.Book c.args.host.now
     c.answer_to.new.host h o g.met.B.Book.settled g.met.B.Book.stored _ _
     c.now.result c.in_ok-asked.asked c.wish_of-wish.result takes c.now.ensures.given
-    c.in_ok-asked.ensures.shows c.in_ok-said.ensures.does (c.in_ok-said.ensures.answers h o).whole
-    (c.in_ok-said.ensures.answers h o).unmade
-    (omega (arith, c.in-Some-checked_add.ensures)) c.wish_of-wish.ensures
+    c.in_ok-asked.ensures.shows c.in_ok-said.ensures.does
+    (λ may. (c.in_ok-said.ensures.answers h o may).whole)
+    (λ may. (c.in_ok-said.ensures.answers h o may).unmade)
+    (omega (arith, c.in-Some-checked_add.ensures)) c.wish_of-wish.ensures)

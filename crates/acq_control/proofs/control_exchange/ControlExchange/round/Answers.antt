@@ -4,11 +4,11 @@ use Rattle.acq_book.specs.declared.book_fault.BookFault.{BookFault}
 use Rattle.acq_front.specs.Stops.{left_of}
 use Rattle.acq_front.proofs.StopsLeave.{none_stop}
 use Rattle.acq_control.specs.declared.control_turn.ControlTurn.{ControlTurn}
-use Rattle.acq_control.specs.declared.control_turn.ControlTurn.TheVariants.{Took, Waits}
+use Rattle.acq_control.specs.declared.control_turn.ControlTurn.TheVariants.{Prepares, Took, Waits}
 use Rattle.acq_control.specs.Ends.{End, Steps, end_of}
 use Rattle.acq_control.specs.Lines.{IsInLine}
 use Rattle.acq_control.specs.Exchanges.{held_of, passed, taken_of, unmade_of, unsent_of}
-use Rattle.acq_control.proofs.Rounds.{moved_on, none_left, reads_on, takes_on, unmade_none}
+use Rattle.acq_control.proofs.Rounds.{moved_on, none_left, prepares_on, reads_on, takes_on}
 use Rattle.acq_control.proofs.Rounds.{writes_on}
 use Rattle.acq_control.proofs.control_exchange.ControlExchange.round.Goals as goal
 
@@ -23,11 +23,21 @@ returns-in-Took-clause-goes g c = λ h o.
     let took : c.turn.result ≡ Ok (Took c.in-Took.wish) = search rules in
     let steps = subst (λ (r : Result ControlTurn BookFault). Steps give c.args.serving tables left
     (end_of it.conversation) (end_of c.turn.new.self) r) took (c.turn.ensures.steps h o) in
-    let unmade = unmade_none (unmade_of it) c.is_making.result c.is_making.ensures
-    c.if-is_making.false in
-    rw (none, unmade) (takes_on give c.args.serving tables left (g.L.Line.received it.line)
+    rw none (takes_on give c.args.serving tables left (g.L.Line.received it.line)
     (g.L.Line.sent it.line) (end_of it.conversation) (end_of c.turn.new.self) steps.0
-    c.in-Took.wish steps.1 steps.2)
+    c.in-Took.wish steps.1 steps.2 (c.is_making.ensures c.if-is_making.false))
+
+pub returns-in-Prepares-clause-goes : goal.returns-in-Prepares-clause-goes
+returns-in-Prepares-clause-goes g c = λ h o.
+    let give = g.C.Clock.may_give c.args.clock.now in
+    let tables = g.B.Book.tables c.args.host.now in
+    let left = left_of g.B.Book c.turn.new.host in
+    let it = c.args.self.now in
+    let prepares : c.turn.result ≡ Ok Prepares = search rules in
+    let steps = subst (λ (r : Result ControlTurn BookFault). Steps give c.args.serving tables left
+    (end_of it.conversation) (end_of c.turn.new.self) r) prepares (c.turn.ensures.steps h o) in
+    prepares_on give c.args.serving tables left (g.L.Line.received it.line)
+    (g.L.Line.sent it.line) (end_of it.conversation) (end_of c.turn.new.self) steps
 
 pub receive-requires-clause-within : goal.receive-requires-clause-within
 receive-requires-clause-within g c =
