@@ -20,8 +20,9 @@ use acq_book::{Book, BookFault};
 use acq_core::{MerchantId, Reference, Request};
 use std::alloc::{AllocError, Global};
 
-/// So many rows are gone over at a time, by a walk's first queries.
-const SLICE: u64 = 580;
+/// So many rows are gone over at a time: a walk's query has read 2, 8 and 64 rows by then, and would
+/// read 512 next.
+const SLICE: u64 = 74;
 
 /// A search for the requests that an inquiry finds among a merchant's, which goes over a book's
 /// requests slice by slice, while events are taken between the slices.
@@ -74,8 +75,7 @@ impl Search {
         self.is_at_end
     }
 
-    /// Goes on by a slice, of some six hundred rows; where it is done, over the rows that came
-    /// since.
+    /// Goes on by a slice, of some seventy rows; where it is done, over the rows that came since.
     #[tactic(auto, using(acq_book::proofs::Chains::looks_more))]
     pub fn go_on<B: Book>(&self, alloc: Global, book: &mut B) -> Result<Search, BookFault>
         ensures goes { B.is_honest book.new → B.is_open book.old
