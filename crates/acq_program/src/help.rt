@@ -325,7 +325,8 @@ pub(crate) const ABOUT_RANGES: &str = "Makes a list the ranges of a book";
 pub(crate) const MORE_OF_RANGES: &str = "\
 LIST is CSV with no header line, a record for each range: LOW,HIGH,ISSUER,HOLD. LOW and HIGH are the
 first eight digits of card numbers, HOLD is how many days a hold lasts. The list is read whole
-first. Then the book's ranges that aren't in it are dropped, and those are added that are new; one
+first. Then each range of it that is new is added, and right before it those of the book are dropped
+that go and don't lie behind it; at the end the others are dropped that aren't in the list. One
 whose issuer or hold days are others is dropped and added. These event lines go to standard output,
 as `acqd replay` takes them. With --dry-run nothing in the book is changed.
 
