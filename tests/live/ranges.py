@@ -3,7 +3,8 @@
 
 Behind each the book has just the ranges of the list; the lines that are written make the same of a
 book of another host; a dry run writes them and changes nothing; and a run that is killed is ended
-by the next. The lists have 3,000 ranges, or so many."""
+by the next. The lists have 3,000 ranges, or so many. Shorter ones become the ranges of a host that
+runs, over its control socket, and each line is written once the host has done it."""
 
 import os
 import random
@@ -14,17 +15,19 @@ import sys
 import time
 
 from files import DAY, acqd, content, in_a_folder_of_its_own
-from terminal import Wrong, size, wanted
+from terminal import Book, Host, Wrong, run, size, wanted, when
 
 HEADER = b"low,high,issuer,hold_days\n"
 COUNT = size(3000)
+# How many ranges a list for a host has.
+FEW = 300
 
 
-def list_of(seed):
+def list_of(seed, count=COUNT):
     """A list of ranges in order: of each hundred prefixes some, of one issuer or another."""
     draw = random.Random(seed)
     records = []
-    for at in range(COUNT):
+    for at in range(count):
         low = 10_000_000 + 100 * at + draw.randrange(3)
         if draw.randrange(10):
             issuer, days = draw.choice(("12345", "067890")), draw.choice((1, 7, 31))
@@ -109,7 +112,24 @@ def refused(_):
     wanted("the book", content("book.db"), before)
 
 
-TRIES = [lists, killed, refused]
+def hosts(program):
+    """Lists become the ranges of a host that runs, one after the other."""
+    with Book(program, merchants=None) as book, Host(book, control=True) as host:
+        when("no control socket", lambda: os.path.exists(host.control_path))
+        words = [program, "ranges", "--control", host.control_path, "--set", "list.csv"]
+        for records in (list_of(7, FEW), list_of(8, FEW), b"", list_of(9, FEW)):
+            put(records)
+            before = host.tell("list,ranges")
+            told = run([*words, "--dry-run"], b"")
+            wanted("the ranges behind a dry run", host.tell("list,ranges"), before)
+            set_ = run(words, b"")
+            wanted("how it ended", (set_[0], set_[2]), (0, ""))
+            wanted("what a dry run told", told, set_)
+            wanted("the host's ranges", host.tell("list,ranges").encode(), HEADER + records)
+            wanted("the same list again", run(words, b""), (0, b"", ""))
+
+
+TRIES = [lists, killed, refused, hosts]
 
 if __name__ == "__main__":
     sys.exit(in_a_folder_of_its_own(TRIES))

@@ -102,13 +102,45 @@ class MachineAtHand:
             self.words[self.words.index(ANY_PORT)] = str(port.getsockname()[1])
 
     def put_host(self):
-        """Lets a host answer at the socket that the command names."""
-        if self.words[:1] == ["tell"] and self.terms.host is not None and len(self.words) > 1:
-            host = socket.socket(socket.AF_UNIX)
-            host.bind(f"{self.room}/{self.words[1]}")
-            host.listen()
-            self.held.append(host)
-            threading.Thread(target=answer, args=(host, self.terms.host), daemon=True).start()
+        """Lets a host answer at the socket that the command names: to `tell` all at once, to
+        `ranges` one answer to each line."""
+        if self.terms.host is None:
+            return
+        if self.words[:1] == ["tell"] and len(self.words) > 1:
+            self.put_host_at(self.words[1], answer)
+        elif self.words[:1] == ["ranges"] and value_of(self.words, "--control"):
+            self.put_host_at(value_of(self.words, "--control"), answer_each)
+
+    def put_host_at(self, name, how):
+        """Lets a host answer so at a socket."""
+        host = socket.socket(socket.AF_UNIX)
+        host.bind(f"{self.room}/{name}")
+        host.listen()
+        self.held.append(host)
+        threading.Thread(target=how, args=(host, self.terms.host), daemon=True).start()
+
+
+def answers_in(said):
+    """The answers of a host, one by one: lines, and behind a text's heading its bytes."""
+    while said:
+        line, feed, rest = said.partition(b"\n")
+        heading, _, count = line.partition(b" ")
+        behind = int(count) if heading == b"text" and count.isdigit() else 0
+        yield line + feed + rest[:behind]
+        said = rest[behind:]
+
+
+def answer_each(host, said):
+    """Answers each line of the first connection with the next of these, and then lets it go."""
+    try:
+        connection, _ = host.accept()
+        with connection, connection.makefile("rb") as lines:
+            for it in answers_in(said):
+                if not lines.readline():
+                    return
+                connection.sendall(it)
+    except OSError:
+        pass
 
 
 def answer(host, said):

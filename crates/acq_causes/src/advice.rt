@@ -2,7 +2,10 @@
 
 /// What an option's value has to be.
 const VALUES: [(&str, &str); 29] = [
-    ("--db", "a path"),
+    (
+        "--db",
+        "a path; `acqd ranges` takes it, or --control PATH, not both",
+    ),
     ("--limit", "1 to 999999, as in --limit 999999"),
     ("--day", DAY),
     ("--clearing", DAY),

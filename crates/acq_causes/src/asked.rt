@@ -20,6 +20,14 @@ impl<'a> Asked<'a> {
         }
     }
 
+    /// The path of the control socket that `tell` or `ranges` takes.
+    pub(crate) fn control_path(self) -> Option<&'a str> {
+        match self.command() {
+            "ranges" => self.value("--control"),
+            _ => self.path(),
+        }
+    }
+
     /// The path that `tell` takes, which is no option's value.
     pub(crate) fn path(self) -> Option<&'a str> {
         let mut is_value = false;

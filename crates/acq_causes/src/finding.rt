@@ -38,6 +38,9 @@ fn cause_of_number(rt: &HostRuntime, asked: Asked<'_>, number: u64) -> Option<Ca
     match asked.command() {
         "tell" => return plain(of_host(number)),
         "ask" => return plain(of_asking(number)),
+        "ranges" if asked.value("--control").is_some() && of_list(number).is_none() => {
+            return plain(of_host(number));
+        }
         _ => {}
     }
     match of_fault(number) {
@@ -92,7 +95,7 @@ fn cause_of_lack(rt: &HostRuntime, asked: Asked<'_>, lack: Lack) -> Cause {
         Lack::Control => asked.value("--control"),
         Lack::Gateway => asked.value("--gateway"),
         Lack::Port(_) | Lack::TerminalsHost(_) => asked.value("--port"),
-        Lack::Host(_) => asked.path(),
+        Lack::Host(_) => asked.control_path(),
         Lack::SameFile => None,
     };
     let path = about.unwrap_or("");

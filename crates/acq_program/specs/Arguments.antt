@@ -422,9 +422,39 @@ IsRanges texts path list read =
 abbrev pub RangesIn : OptionTexts → String Global → Result Action OptionName → Type 0
 RangesIn texts path = Then (ListFileIs texts) (IsRanges texts path)
 
--- what `ranges` is asked for: the book's file first, then the list's
+-- what `ranges` is asked for of a book: its file first, then the list's
+abbrev pub AsksBookRanges : OptionTexts → Result Action OptionName → Type 0
+AsksBookRanges texts = Then (FileIs texts) (RangesIn texts)
+
+-- the list in this file for the host at this path, for whose answers so many seconds are waited,
+-- told alone or taken
+abbrev pub IsHostRanges
+    : OptionTexts → String Global → ℕ → String Global → Result Action OptionName → Type 0
+IsHostRanges texts path within list read =
+    read ≡ Ok (actions.HostRanges
+    (record { path = path; within = within; list = list; is_dry = is_set texts.dry_run }))
+
+abbrev pub HostRangesFor : OptionTexts → String Global → ℕ → Result Action OptionName → Type 0
+HostRangesFor texts path within = Then (ListFileIs texts) (IsHostRanges texts path within)
+
+abbrev pub HostRangesAt : OptionTexts → String Global → Result Action OptionName → Type 0
+HostRangesAt texts path = Then (WithinIs texts) (HostRangesFor texts path)
+
+-- what `ranges` is asked for of a host: the path first, then how long an answer may take, then the
+-- list's file
+abbrev pub AsksHostRanges : OptionTexts → Result Action OptionName → Type 0
+AsksHostRanges texts = Then (ControlIs texts) (HostRangesAt texts)
+
+-- of a host where there is a control socket, else of a book; and not of both
+abbrev pub AsksRangesBy
+    : (control db : Option Text) → OptionTexts → Result Action OptionName → Type 0
+AsksRangesBy None db texts read = AsksBookRanges texts read
+AsksRangesBy (Some control) None texts read = AsksHostRanges texts read
+AsksRangesBy (Some control) (Some db) texts read = read ≡ Err option.Db
+
+-- what `ranges` is asked for
 abbrev pub AsksRanges : OptionTexts → Result Action OptionName → Type 0
-AsksRanges texts = Then (FileIs texts) (RangesIn texts)
+AsksRanges texts = AsksRangesBy texts.control texts.db texts
 
 -- answers to what is pending in this book on this day, by this file of issuers' answers, at this
 -- moment

@@ -107,11 +107,12 @@ holds =
 abbrev pub list : App
 list = with_rule (with_rule (new_app (codes "list")) (place (codes "what"))) (required (codes "db"))
 
--- `ranges --db FILE --set LIST [--dry-run]`
+-- `ranges`, `--db FILE` or `--control PATH [--within SECONDS]`, `--set LIST [--dry-run]`
 abbrev pub ranges : App
 ranges =
-    with_rule (with_rule (with_rule (new_app (codes "ranges"))
-    (required (codes "db"))) (required (codes "set"))) (flag (codes "dry-run"))
+    with_rule (with_rule (with_rule (with_rule (with_rule (new_app (codes "ranges"))
+    (option (codes "db"))) (option (codes "control"))) (option (codes "within")))
+    (required (codes "set"))) (flag (codes "dry-run"))
 
 -- `pending --db FILE [--day DAY] [--issuers FILE] [--at MOMENT]`
 abbrev pub pending : App

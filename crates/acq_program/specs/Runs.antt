@@ -136,6 +136,8 @@ Does (actions.List asked) remaining received sent told ended =
     EndsPlainly (λ _. received.after ≡ received.before) ended
 Does (actions.Ranges asked) remaining received sent told ended =
     EndsPlainly (λ _. received.after ≡ received.before) ended
+Does (actions.HostRanges asked) remaining received sent told ended =
+    received.after ≡ received.before
 Does (Pending asked) remaining received sent told ended =
     EndsPlainly (λ _. received.after ≡ received.before) ended
 Does (Status asked) remaining received sent told ended =
@@ -162,6 +164,7 @@ Does (Tell path) remaining received sent told ended =
 abbrev pub Tells : Action → List ℕ → List ℕ → Result ℕ Fault → Type 0
 Tells (Listen asked) told told_after ended = Unit {0}
 Tells (Tell path) told told_after ended = ended ≡ Ok 0 → told_after ≡ told
+Tells (actions.HostRanges asked) told told_after ended = ended ≡ Ok 0 → told_after ≡ told
 Tells other told told_after ended = told_after ≡ told
 
 -- Where all is well, no fault was told, but those of connections.

@@ -3,6 +3,7 @@
 use crate::ask_options::AskOptions;
 use crate::csv_options::CsvOptions;
 use crate::find_options::FindOptions;
+use crate::host_ranges_options::HostRangesOptions;
 use crate::list_options::ListOptions;
 use crate::page_options::PageOptions;
 use crate::page_sums::PageSums;
@@ -44,6 +45,8 @@ pub enum Action {
     List(ListOptions),
     /// Make a list the ranges of the book in a file.
     Ranges(RangesOptions),
+    /// Make a list the ranges of a host that takes control connections.
+    HostRanges(HostRangesOptions),
     /// Write answers to the requests that are pending.
     Pending(PendingOptions),
     /// Show the messages of the input, which stand there in this form, so.

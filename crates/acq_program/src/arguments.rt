@@ -3,8 +3,9 @@
 ghost use Rattle.std.specs.Prelude.{◌≡◌, [], List, map};
 ghost use Rattle.clap.specs.Words.{HasMatchesOf, Text, fault_of, found_of};
 ghost use Rattle.acq_program.specs.Program.{program};
-ghost use Rattle.acq_program.specs.Arguments.{AsksAsk, AsksClearing, AsksExplain, AsksFind};
-ghost use Rattle.acq_program.specs.Arguments.{AsksHolds, AsksInit, AsksList, AsksListen, AsksMake};
+ghost use Rattle.acq_program.specs.Arguments.{AsksAsk, AsksBookRanges, AsksClearing, AsksExplain};
+ghost use Rattle.acq_program.specs.Arguments.{AsksFind, AsksHolds, AsksHostRanges, AsksInit};
+ghost use Rattle.acq_program.specs.Arguments.{AsksList, AsksListen, AsksMake};
 ghost use Rattle.acq_program.specs.Arguments.{AsksMigrate, AsksOnce, AsksPage, AsksPending};
 ghost use Rattle.acq_program.specs.Arguments.{AsksRanges, AsksReplay, AsksReport, AsksShow};
 ghost use Rattle.acq_program.specs.Arguments.{AsksStatement, AsksStatus, AsksTell, BoundsAre};
@@ -19,6 +20,7 @@ use crate::ask_options::AskOptions;
 use crate::bounds::Bounds;
 use crate::csv_options::CsvOptions;
 use crate::find_options::FindOptions;
+use crate::host_ranges_options::HostRangesOptions;
 use crate::list_options::ListOptions;
 use crate::option_name::OptionName;
 use crate::option_values::{
@@ -364,9 +366,38 @@ fn list_of(alloc: Global, options: &ArgMatches) -> Result<Action, UsageFault>
     Ok(Action::List(ListOptions { path, listing }))
 }
 
-/// What `ranges` is asked for.
+/// What `ranges` is asked for: the ranges of a host at a control socket, or without one those of a
+/// book in a file, and not both.
 fn ranges_of(alloc: Global, options: &ArgMatches) -> Result<Action, UsageFault>
     ensures { Reads (AsksRanges (found_texts (found_of options.now))) result }
+{
+    if options.get_str("control").is_none() {
+        return book_ranges_of(alloc, options);
+    }
+    if options.get_str("db").is_some() {
+        return Err(UsageFault::BadValue(OptionName::Db));
+    }
+    host_ranges_of(alloc, options)
+}
+
+/// What `ranges` is asked for of a host.
+fn host_ranges_of(alloc: Global, options: &ArgMatches) -> Result<Action, UsageFault>
+    ensures { Reads (AsksHostRanges (found_texts (found_of options.now))) result }
+{
+    let path = control_value(alloc, options)?;
+    let within = within_option(options)?;
+    let list = list_file_option(alloc, options)?;
+    Ok(Action::HostRanges(HostRangesOptions {
+        path,
+        within,
+        list,
+        is_dry: is_set(options, "dry-run"),
+    }))
+}
+
+/// What `ranges` is asked for of a book in a file.
+fn book_ranges_of(alloc: Global, options: &ArgMatches) -> Result<Action, UsageFault>
+    ensures { Reads (AsksBookRanges (found_texts (found_of options.now))) result }
 {
     let path = file_option(alloc, options)?;
     let list = list_file_option(alloc, options)?;

@@ -325,12 +325,20 @@ pub(crate) const ABOUT_RANGES: &str = "Makes a list the ranges of a book";
 pub(crate) const MORE_OF_RANGES: &str = "\
 LIST is CSV with no header line, a record for each range: LOW,HIGH,ISSUER,HOLD. LOW and HIGH are the
 first eight digits of card numbers, HOLD is how many days a hold lasts. The list is read whole
-first. Then the book's ranges that aren't in it are dropped, and those are added that are new; one
+first. Then each range of it that is new is added, and right before it those of the book are dropped
+that go and don't lie behind it; at the end the others are dropped that aren't in the list. One
 whose issuer or hold days are others is dropped and added. These event lines go to standard output,
 as `acqd replay` takes them. With --dry-run nothing in the book is changed.
 
-Events are taken a thousand at a time, and the lines are written once all are in the file. A stop
-leaves whole thousands; the same command then does the rest.
+With --db FILE it is the book in a file. Events are taken a thousand at a time, and the lines are
+written once all are in the file. A stop leaves whole thousands; the same command then does the
+rest.
+
+With --control PATH it is the book of the host that runs and takes control connections at PATH. The
+host is asked for its ranges and told the events, the next one once the one before is done; its line
+is written then. So cards whose range is replaced have no issuer for a few events alone. What the
+host says of an event that isn't done, as where another changes its ranges meanwhile, goes to
+standard error, and no further one is told; the same command then does the rest.
 
 The status is 0 where all is well, 1 for a fault, 2 for wrong usage, 3 where memory ran out or the
 file failed. A fault is one line on standard error:
@@ -341,11 +349,15 @@ file failed. A fault is one line on standard error:
   acqd: 23 BadLine RECORD          this record of the list is out of its form
   acqd: 40 NotABook                the file holds no book
   acqd: 41 OtherVersion VERSION    the file holds a book of this other version
-  acqd: 53 Read                    the list can't be read
+  acqd: 50 BadLength               the host's answer has no form, or is no listing of ranges
+  acqd: 51 Ended                   the host ended the connection before an answer was whole
+  acqd: 53 Read                    the list can't be read; nobody listens at PATH; a read failed
   acqd: 54 Write BYTES             a write failed after so many bytes of the lines
+  acqd: 55 Silent                  the host gave no answer within the SECONDS of --within
 
-Example:
-  acqd ranges --db book.db --set ranges.csv";
+Examples:
+  acqd ranges --db book.db --set ranges.csv
+  acqd ranges --control host.control --set ranges.csv --dry-run";
 
 pub(crate) const ABOUT_PENDING: &str =
     "Writes answers to the requests that wait for their issuer's";

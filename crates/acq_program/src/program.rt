@@ -334,12 +334,26 @@ const LIST: [Parameter<'static>; 2] = [
 ];
 
 /// What `ranges` takes.
-const RANGES: [Parameter<'static>; 3] = [
-    BOOK,
+const RANGES: [Parameter<'static>; 5] = [
+    Parameter {
+        name: "db",
+        kind: Optional("FILE"),
+        help: "The file of the book; or else --control",
+    },
+    Parameter {
+        name: "control",
+        kind: Optional("PATH"),
+        help: "The control socket's file of a host that runs; or else --db",
+    },
+    Parameter {
+        name: "within",
+        kind: Optional("SECONDS"),
+        help: "How long the host's answer may take, 0 to 999999, 0 for ever [default: 60]",
+    },
     Parameter {
         name: "set",
         kind: Required("LIST"),
-        help: "The file of the list that becomes the book's ranges",
+        help: "The file of the list that becomes the ranges",
     },
     Parameter {
         name: "dry-run",

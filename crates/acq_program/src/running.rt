@@ -22,6 +22,7 @@ use crate::machine::Machine;
 use crate::page_options::PageOptions;
 use crate::page_sums::PageSums;
 use crate::pending::answer_pending;
+use crate::setting_host_ranges::set_ranges_of_host;
 use crate::setting_ranges::set_ranges;
 use crate::stating::{report_csv, state};
 use crate::status::tell_status;
@@ -140,6 +141,7 @@ fn run<B: Lenient + Drop, M: Machine<B> + Drop, C: Clock, S: Source, K: Sink, F:
         Action::Ranges(asked) => plainly(set_ranges(
             alloc, keys, machine, &asked, output, progress,
         )),
+        Action::HostRanges(asked) => set_ranges_of_host(alloc, machine, &asked, output, faults),
         Action::Pending(asked) => plainly(answer_pending(alloc, machine, &asked, clock, output)),
         Action::Show(how, form) => plainly(show(alloc, how, form, input, output)),
         Action::Make(said, form) => plainly(make(alloc, said, &form, input, output)),

@@ -68,6 +68,10 @@ none_found q (x ∷ xs) fail =
 
 -- ---- overlaps
 
+-- a range has no prefix of another
+abbrev pub is_clear_of : Range → Range → Bool
+is_clear_of r s = not (overlaps (between r.low r.high) s)
+
 -- one that ends before another begins overlaps none of its prefixes
 clear_before : (r s : Range) → is_before s r ≡ true →
     not (overlaps (between r.low r.high) s) ≡ true
@@ -80,7 +84,7 @@ clear_before r s before =
       | inr clear ↦ rw clear refl
     ]
 
-clear_behind : (r s : Range) → is_before r s ≡ true →
+pub clear_behind : (r s : Range) → is_before r s ≡ true →
     not (overlaps (between r.low r.high) s) ≡ true
 clear_behind r s before =
     elim (cases_Bool (overlaps (between r.low r.high) s)) [

@@ -1,7 +1,10 @@
-pub mod Collecting
 pub mod Listed
 pub mod Apart
+pub mod Collecting
 pub mod SameMembers
+pub mod Filters
 pub mod Kept
 pub mod Leads
 pub mod Leading
+pub mod Parted
+pub mod Turns

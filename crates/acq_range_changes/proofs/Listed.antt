@@ -11,7 +11,7 @@ use Rattle.card_no.specs.Ranges.{range_of_prefix}
 use Rattle.card_no.proofs.ElementsThatPass.{all-at}
 use Rattle.card_no.proofs.RangeEnds.{ends_in_order, holds_parts}
 
-ends_at_prefix : (r : Range) → is_valid_range r ≡ true → r.high ≤ greatest_prefix
+pub ends_at_prefix : (r : Range) → is_valid_range r ≡ true → r.high ≤ greatest_prefix
 ends_at_prefix r valid =
     let a = and_parts
     (leb r.low r.high && leb r.high greatest_prefix && is_issuer r.issuer && leb 1 r.hold_days)

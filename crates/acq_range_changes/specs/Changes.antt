@@ -1,10 +1,11 @@
--- The events by which a list becomes a book's ranges of cards (own profile): first those of the
--- book's ranges that aren't in the list are dropped, then those of the list that are new are added.
-use Rattle.std.specs.Prelude.{◌==◌, Bool, false, not, ◌&&◌, List, ◌++◌, map, filter}
+-- The events by which one list of ranges becomes another (own profile). Each range that is new is
+-- added, and right before it the ranges are dropped that go and don't lie behind it. So no range
+-- that is added overlaps one that goes, and what makes room for it stands next to it.
+use Rattle.std.specs.Prelude.{◌==◌, Bool, false, not, ◌&&◌, List, [], ◌∷◌, ◌++◌, map, filter}
 use Rattle.std.specs.Prelude.{Option, Some, None}
 use Rattle.std.specs.Str.{bytes_eq}
 use Rattle.card_no.specs.declared.range.Range.{Range}
-use Rattle.card_no.specs.Ranges.{range_of_prefix}
+use Rattle.card_no.specs.Ranges.{is_before, range_of_prefix}
 use Rattle.acq_core.specs.declared.event.Event.{Event}
 use Rattle.acq_core.specs.declared.event.Event.TheVariants.{AddRange, DropRange}
 use Rattle.acq_core.specs.Tables.{Tables}
@@ -32,14 +33,19 @@ others ranges rows = filter (λ r. not (is_among ranges r)) rows
 abbrev pub drop_of : Range → Event
 drop_of r = DropRange r.low r.high
 
--- each range of the book that isn't in the list is dropped
-abbrev pub dropped : List Range → Tables → List Event
-dropped list t = map drop_of (others list (ranges_at t))
+-- each range that comes is added, right behind the drops of those that go and don't lie behind it;
+-- at the end the others that go are dropped
+abbrev pub in_turn : (gone come : List Range) → List Event
+in_turn gone [] = map drop_of gone
+in_turn gone (r ∷ come) =
+    map drop_of (filter (λ s. not (is_before r s)) gone)
+    ++ AddRange r ∷ in_turn (filter (is_before r) gone) come
 
--- each range of the list that isn't in the book is added
-abbrev pub added : List Range → Tables → List Event
-added list t = map AddRange (others (ranges_at t) list)
+-- a range of the old list goes that isn't in the new one; one of the new list comes that isn't in
+-- the old one
+abbrev pub changes_between : (old new : List Range) → List Event
+changes_between old new = in_turn (others new old) (others old new)
 
--- the drops go first, so that no range that is added overlaps one that goes
+-- the same of a book's ranges and a list
 abbrev pub changes_to : List Range → Tables → List Event
-changes_to list t = dropped list t ++ added list t
+changes_to list t = changes_between (ranges_at t) list

@@ -1,4 +1,4 @@
 pub mod Changes
 pub mod Lines
-pub mod Dropping
+pub mod Gathering
 pub mod Worked

@@ -16,14 +16,14 @@ pub fn change_lines(alloc: Global, events: &[Event]) -> Result<Vec<u8>, AllocErr
 {
     let mut text = Vec::new(alloc);
     for event in events.iter() {
-        let line = change_text(alloc, event)?;
+        let line = change_line(alloc, event)?;
         text.extend_from_slice(line.as_slice())?;
     }
     Ok(text)
 }
 
-/// The line of an event.
-fn change_text(alloc: Global, event: &Event) -> Result<Vec<u8>, AllocError>
+/// The line of an event that adds or drops a range; of another one none, and no bytes.
+pub fn change_line(alloc: Global, event: &Event) -> Result<Vec<u8>, AllocError>
     ensures { IfOk result (λ text. text.items ≡ change_line event.now) }
 {
     match event {

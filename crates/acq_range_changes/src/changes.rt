@@ -1,28 +1,27 @@
-//! What is to change of a book's ranges.
+//! What is to change of ranges.
 
-ghost use Rattle.std.specs.Prelude.{◌≡◌, ◌++◌, ◌∷◌, [], true, is_ok, IfOk, OnOk};
+ghost use Rattle.std.specs.Prelude.{◌≡◌, ◌≤◌, ◌++◌, ◌∷◌, [], true, not, is_ok, IfOk, OnOk};
+ghost use Rattle.std.specs.Prelude.{length, map, filter, take, drop};
 ghost use Rattle.std.specs.Option.{option_copied};
-ghost use Rattle.card_no.specs.Prefix.{IsPrefix};
-ghost use Rattle.card_no.specs.Ranges.{are_ranges};
+ghost use Rattle.card_no.specs.Ranges.{are_ranges, is_before};
 ghost use Rattle.acq_core.specs.declared.event.Event.TheVariants.{AddRange};
 ghost use Rattle.acq_book.specs.Calls.{Looks};
 ghost use Rattle.acq_book.specs.Promise.{CountsFault};
-ghost use Rattle.acq_range_changes.specs.Changes.{added, changes_to, dropped, is_among, is_same};
-ghost use Rattle.acq_range_changes.specs.Changes.{same_range};
+ghost use Rattle.acq_range_changes.specs.Changes.{changes_between, changes_to, drop_of, is_among};
+ghost use Rattle.acq_range_changes.specs.Changes.{is_same, others, same_range};
 
-use acq_book::{Book, BookFault, Visit};
+use crate::gathering::book_ranges;
+use acq_book::{Book, BookFault};
 use acq_core::Event;
 use card_no::{Prefix, Range, RangeList};
 use std::alloc::{AllocError, Global};
 
-/// The events by which a list becomes the book's ranges (own profile; `specs/Changes.antt`): a drop
-/// of each range of the book that isn't in the list just so, then an addition of each of the list
-/// that isn't in the book just so, both in order of `low`. A range of which the issuer or the hold
-/// days differ is dropped and added anew.
+/// The events by which a list becomes a book's ranges (own profile; `specs/Changes.antt`): those of
+/// [`list_changes`], of the book's ranges and the list.
 ///
-/// Each range is looked up once, by its lower end: those of the book in the list, and those of the
-/// list in the book. The events are held in memory, since a book is lent to its walk; the book's
-/// ranges aren't. The book stays as it is. It fails only where memory runs out or the store fails.
+/// The book's ranges are gathered by one walk, and held in memory with the events. The book stays
+/// as it is. It fails only where memory runs out or the store fails, or hands over what are no
+/// ranges of a book.
 pub fn range_changes<B: Book>(
     alloc: Global,
     book: &mut B,
@@ -33,74 +32,58 @@ pub fn range_changes<B: Book>(
     ensures looks { Looks B.Book book.old book.new (is_ok result) }
     ensures store { CountsFault result (B.failures book.old) (B.failures book.new) }
 {
-    let mut events = dropped(alloc, book, list)?;
-    put_adds(alloc, book, list.as_slice(), &mut events)?;
+    let old = book_ranges(alloc, book)?;
+    let events = list_changes(alloc, &old, list)?;
     Ok(events)
 }
 
-/// The drops of the book's ranges that were handed over and aren't in a list, unless memory ran
-/// out.
-#[derive(Drop)]
-struct Drops<'a> {
-    list: &'a RangeList,
-    events: Vec<Event>,
-    is_short: bool,
-}
-
-impl Visit<Range> for Drops<'_> {
-    ghost use Rattle.acq_range_changes.specs.Dropping.{DropsOne};
-
-    ghost sees = { DropsOne };
-
-    fn row(&mut self, row: &Range) -> bool {
-        if is_listed(self.list, row) {
-            return true;
-        }
-        match self.events.push(Event::DropRange(row.low, row.high)) {
-            Ok(()) => true,
-            Err(_) => {
-                self.is_short = true;
-                false
-            }
-        }
-    }
-}
-
-/// The drops of the book's ranges that aren't in a list.
-fn dropped<B: Book>(alloc: Global, book: &mut B, list: &RangeList) -> Result<Vec<Event>, BookFault>
-    ensures events { B.is_honest book.new → B.is_open book.old → IfOk result (λ events.
-        events.items ≡ dropped list.now (B.tables book.old)) }
-    ensures looks { Looks B.Book book.old book.new (is_ok result) }
-    ensures store { CountsFault result (B.failures book.old) (B.failures book.new) }
-{
-    let mut seen = Drops {
-        list,
-        events: Vec::new(alloc),
-        is_short: false,
-    };
-    book.walk_ranges(&mut seen)?;
-    if seen.is_short {
-        return Err(BookFault::Memory);
-    }
-    Ok(seen.events)
-}
-
-/// Puts behind these events an addition of each of these ranges that isn't in the book.
-fn put_adds<B: Book>(
+/// The events by which one list becomes another (own profile; `specs/Changes.antt`): an addition of
+/// each range of the new list that isn't in the old one just so, in order of `low`, and right
+/// before it a drop of each range of the old list that isn't in the new one just so and doesn't lie
+/// behind it; at the end the drops that are left. A range of which the issuer or the hold days
+/// differ is dropped and added anew.
+///
+/// Each range is looked up once in the other list, by halves. It fails only where memory runs out.
+pub fn list_changes(
     alloc: Global,
-    book: &mut B,
-    ranges: &[Range],
-    events: &mut Vec<Event>,
-) -> Result<(), BookFault>
-    requires { are_ranges ranges.now ≡ true }
-    ensures events { B.is_honest book.new → B.is_open book.old → OnOk result
-        (events.new.items ≡ events.old.items ++ added ranges.now (B.tables book.old)) }
-    ensures looks { Looks B.Book book.old book.new (is_ok result) }
-    ensures store { CountsFault result (B.failures book.old) (B.failures book.new) }
+    old: &RangeList,
+    new: &RangeList,
+) -> Result<Vec<Event>, AllocError>
+    ensures { IfOk result (λ events. events.items ≡ changes_between old.now new.now) }
 {
-    for range in ranges.iter() {
-        if !is_in_book(book, range)? {
-            put_add(alloc, range, events)?;
+    let mut events = Vec::new(alloc);
+    let mut left = old.as_slice();
+    for range in new.as_slice().iter() {
+        if !is_listed(old, range) {
+            let (near, behind) = left.split_at(up_to(left, range));
+            put_drops(new, near, &mut events)?;
+            put_add(alloc, range, &mut events)?;
+            left = behind;
+        }
+    }
+    put_drops(new, left, &mut events)?;
+    Ok(events)
+}
+
+/// How many of these ranges don't lie behind a range.
+fn up_to(rows: &[Range], range: &Range) -> usize
+    requires { are_ranges rows.now ≡ true }
+    ensures within { result ≤ length rows.now }
+    ensures near { take result rows.now ≡ filter (λ row. not (is_before range.now row)) rows.now }
+    ensures behind { drop result rows.now ≡ filter (is_before range.now) rows.now }
+{
+    let end = range.high;
+    rows.partition_point(|row| row.low <= end)
+}
+
+/// Puts a drop of each of these ranges that isn't in a list.
+fn put_drops(list: &RangeList, rows: &[Range], events: &mut Vec<Event>) -> Result<(), AllocError>
+    ensures { OnOk result
+        (events.new.items ≡ events.old.items ++ map drop_of (others list.now rows.now)) }
+{
+    for row in rows.iter() {
+        if !is_listed(list, row) {
+            events.push(Event::DropRange(row.low, row.high))?;
         }
     }
     Ok(())
@@ -113,22 +96,6 @@ fn put_add(alloc: Global, range: &Range, events: &mut Vec<Event>) -> Result<(), 
     let copy = range.copied(alloc)?;
     events.push(Event::AddRange(copy))?;
     Ok(())
-}
-
-/// Whether a range is in the book just so. It is looked up by its lower end, since a book may have to
-/// go over its ranges to find an overlap.
-fn is_in_book<B: Book>(book: &mut B, range: &Range) -> Result<bool, BookFault>
-    requires { IsPrefix range.now.low }
-    ensures among { B.is_honest book.new → B.is_open book.old → IfOk result (λ is_there.
-        is_there ≡ is_among (B.tables book.old).ranges range.now) }
-    ensures looks { Looks B.Book book.old book.new (is_ok result) }
-    ensures store { CountsFault result (B.failures book.old) (B.failures book.new) }
-{
-    let Some(prefix) = Prefix::from_number(range.low) else {
-        return Ok(false);
-    };
-    let found = book.range(prefix)?;
-    Ok(is_same(range, found.as_ref()))
 }
 
 /// Whether a range is in a list just so.

@@ -8,7 +8,7 @@ use Rattle.acq_program.specs.declared.usage_fault.UsageFault.{UsageFault}
 use Rattle.acq_program.specs.Arguments.{IsRanges, RangesIn}
 use Rattle.acq_program.specs.Options.{FileIs, ListFileIs, found_texts}
 use Rattle.acq_program.proofs.OptionsRead.{first_fails, then_rest}
-use Rattle.acq_program.proofs.arguments.ranges_of.Goals as goal
+use Rattle.acq_program.proofs.arguments.book_ranges_of.Goals as goal
 
 pub returns-in_err-path : goal.returns-in_err-path
 returns-in_err-path c =
