@@ -80,7 +80,8 @@ module _ (may_give : ℕ → Type 0) (serving : Serving) (old : Tables) (left : 
                 (follows_asked k t acts came went f.held front.rest
                 (after.unsent ++ unmade_at left.tables after.unmade) front.line
                 before.taken after.taken took.moment asked follows front.begins front.asks
-                took.count (took.answers may ∙ ap (λ (t : Tables). answer_of t after.taken asked) is));
+                took.count
+                (took.answers may ∙ ap (λ (t : Tables). answer_of t after.taken asked) is));
             may = subst (λ (x : Tables). MayBeUnmade x after.unmade) behind (took.unmade may);
           },
         );
@@ -184,7 +185,11 @@ module _ (may_give : ℕ → Type 0) (serving : Serving) (old : Tables) (left : 
     follows = λ k t acts is f. record {
       held = f.held;
       holds = rw prepares.begins.held f.holds;
-      follows = rw (prepares.begins.unsent, prepares.begins.rest (behind_acts t acts), prepares.begins.taken)
+      follows = rw (
+        prepares.begins.unsent,
+        prepares.begins.rest (behind_acts t acts),
+        prepares.begins.taken,
+      )
           f.follows;
       may = prepares.begins.unmade (behind_acts t acts);
     };
@@ -252,4 +257,3 @@ none_left [] left b is on same = sym same
 none_left (x ∷ seen) left b is on same =
     let some : (length (x ∷ seen) == 0) ≡ false = grind (arith, nat_tests) in
     absurd (true≢false (sym on ∙ is ∙ some))
-

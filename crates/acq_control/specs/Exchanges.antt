@@ -1,6 +1,6 @@
 -- One control connection to a host that has many, a round at a time.
 use Rattle.std.specs.Prelude.{◌≡◌, ◌+◌, ◌<◌, ℕ, Bool, true, false, List, [], ◌∷◌, ◌++◌}
-use Rattle.std.specs.Prelude.{length, Option, None, Result, Ok, Err}
+use Rattle.std.specs.Prelude.{length, Option, Result, Ok, Err}
 use Rattle.acq_core.specs.Tables.{Tables}
 use Rattle.acq_front.specs.Stops.{Left, LeavesAll}
 use Rattle.acq_front.specs.declared.front_fault.FrontFault.{FrontFault}

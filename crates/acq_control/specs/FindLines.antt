@@ -1,8 +1,8 @@
 -- What a line asks that has requests found (own profile): of a merchant, the request with a
 -- reference, those of a terminal with a trace number, or those of a day whose cards end in four
 -- digits.
-use Rattle.std.specs.Prelude.{◌≡◌, ◌==◌, ◌&&◌, ◌+◌, ℕ, nat_eq, Bool, false, List, codes, drop, take, length}
-use Rattle.std.specs.Prelude.{Option, Some, None, option_map, true, if◌then◌else◌}
+use Rattle.std.specs.Prelude.{◌≡◌, ◌==◌, ◌&&◌, ◌+◌, ℕ, nat_eq, Bool, false, List, codes, drop}
+use Rattle.std.specs.Prelude.{take, length, Option, Some, None, option_map, true, if◌then◌else◌}
 use Rattle.std.specs.List.{list_all, position, starts_with}
 use Rattle.std.specs.Char.{is_ascii_digit}
 use Rattle.std.specs.Str.{IsUtf8}

@@ -111,7 +111,8 @@ fn put_question<B: Book + Drop>(
     answer: &mut MemorySink,
 ) -> Result<Option<UnmadeAnswer>, BookFault>
     ensures answers { (number : ℕ) → B.is_honest host.new → B.is_open host.old
-        → MayBeUnmade (B.tables host.old) prepared.now → IfOk result (Puts (B.tables host.new) (sent_of answer.old) (sent_of answer.new)
+        → MayBeUnmade (B.tables host.old) prepared.now → IfOk result
+        (Puts (B.tables host.new) (sent_of answer.old) (sent_of answer.new)
         (answer_of (B.tables host.old) number (Some question.now))) }
     ensures does { OnOk result (Does B.Book host.old host.new (Some question.now) true) }
     ensures refused { OnErr result (DoesSome B.Book host.old host.new (Some question.now)) }
