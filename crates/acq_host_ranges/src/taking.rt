@@ -1,6 +1,6 @@
 //! Events that a host takes.
 
-ghost use Rattle.std.specs.Prelude.{◌≡◌, ◌++◌, ℕ, take, true, IfOk, Ok};
+ghost use Rattle.std.specs.Prelude.{◌≡◌, ◌++◌, ℕ, take, true, false, IfOk, Ok};
 ghost use Rattle.acq_control.specs.Telling.{Talk};
 ghost use Rattle.acq_range_changes.specs.Lines.{change_line};
 ghost use Rattle.acq_host_ranges.specs.Exchanges.{AreDone, IsDone, behind, lines_of};
