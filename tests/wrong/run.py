@@ -67,7 +67,7 @@ SCRIPTS = [
         ("reply 3", "the reply to an echo"),
         ("text clearing", "the file beside"),
     ]),
-    ("control found_in_slices", [("text find", "what is found")]),
+    ("control found_in_slices", [("text find", "the file beside")]),
     ("control a_day 5", [
         ("reply 4", "replies to terminal"),
         # A day of few terminals may be cleared before its first sale.
