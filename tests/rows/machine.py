@@ -139,6 +139,8 @@ def answer_each(host, said):
                 if not lines.readline():
                     return
                 connection.sendall(it)
+            # What is told behind the last is read: with it unread the end would be a reset.
+            lines.readline()
     except OSError:
         pass
 
