@@ -193,15 +193,18 @@ def who_is_deaf_at_the_end(program, idle):
 
 
 def a_host_that_stands_still(program):
-    """`tell --within` waits no longer than this for an answer, and says that none came."""
+    """`tell` and `ranges --control` wait no longer than `--within` for an answer, and say that none
+    came."""
     with Book(program) as book:
         with Host(book, "--together", "8", control=True) as host:
             host.tell("status")
             host.hold_still()
-            words = [program, "tell", "--within", "1", host.control_path]
-            began = time.monotonic()
-            wanted("what is told", run(words, b"status\n"), (1, b"", "acqd: 55 Silent\n"))
-            at_most("the seconds of it", time.monotonic() - began, 10)
+            ranges = ["ranges", "--control", host.control_path, "--set", book.file("list.csv", "")]
+            for words in (["tell", host.control_path], ranges):
+                words = [program, *words, "--within", "1"]
+                began = time.monotonic()
+                wanted("what is told", run(words, b"status\n"), (1, b"", "acqd: 55 Silent\n"))
+                at_most("the seconds of it", time.monotonic() - began, 10)
             host.go_on()
             wanted("then", host.figures()["day"], DAY)
 

@@ -105,6 +105,7 @@ SCRIPTS = [
         ("text list", "the book's ranges"),
         ("text ranges", "the lines at another host"),
     ]),
+    ("ranges hosts", [("text list,ranges", "the host's ranges")]),
     ("sums asked_for", [("text statement", "what the shop is owed")]),
     ("foreign version_one", [("text replay", "the day's first lines")]),
     ("file_stops modes_and_links", [("text replay", "a book behind a link: the day")]),
