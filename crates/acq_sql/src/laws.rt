@@ -35,5 +35,5 @@ fn into_store<S: Alter + Drop>(book: SqlBook<S>) -> S
     ensures numbered { IsClean (S.Store.view result) → IsTrue (S.Store.view result).is_numbered }
     ensures sound { IsClean (S.Store.view result) → AreDatabases (S.Store.recovers result) }
 {
-    book.release().into_store()
+    book.into_connection().into_store()
 }

@@ -230,7 +230,7 @@ impl<S: Alter> SqlBook<S> {
     }
 
     /// The connection.
-    pub(crate) fn release(self) -> Connection<S>
+    pub fn into_connection(self) -> Connection<S>
         ensures connection { result ≡ self.connection }
         ensures settled { self.in_group ≡ false → HasCleanDisk (state S.Store result)
             → result.in_transaction ≡ false }

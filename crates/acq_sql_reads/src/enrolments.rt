@@ -97,7 +97,7 @@ fn terminal_rows<S: Alter>(
 }
 
 /// The terminal of a row with the two columns.
-pub(crate) fn read_terminal(row: &Row) -> Result<Terminal, Error>
+pub fn read_terminal(row: &Row) -> Result<Terminal, Error>
     ensures value { IfOk result (λ x. length row.now ≡ 2 → row.now ≡ terminal_row x) }
     ensures fails { IsTerminalRow row.now → FailsForMemory result }
 {

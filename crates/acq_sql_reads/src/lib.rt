@@ -27,8 +27,9 @@ pub use book_row::limit_and_day;
 pub use counts::{
     merchant_and_admitted, pending, range_count, terminal_count, used_on, waiting_count,
 };
-pub use enrolments::{has_terminal, read_merchant};
-pub use ranges::{overlapping, range};
+pub use enrolments::{has_terminal, read_merchant, read_terminal};
+pub use posting_row::read_posting;
+pub use ranges::{overlapping, range, read_range};
 pub use reconciliations::last_reconciliation;
 pub use request_row::read_request;
 pub use requests::{by_reference, request};

@@ -17,7 +17,7 @@ use sqlite::{Error, ErrorCode, Row};
 use std::alloc::Global;
 
 /// The posting of a row with the nine columns, and its number.
-pub(crate) fn read_posting(alloc: Global, row: &Row) -> Result<(u64, Posting), Error>
+pub fn read_posting(alloc: Global, row: &Row) -> Result<(u64, Posting), Error>
     ensures value { IfOk result (λ p. length row.now ≡ 9 → row.now ≡ posting_row p) }
     ensures fails { IsPostingRow row.now → FailsForMemory result }
 {

@@ -143,7 +143,7 @@ fn overlapping_rows<S: Alter>(
 }
 
 /// The range of a row with the four columns.
-pub(crate) fn read_range(alloc: Global, row: &Row) -> Result<Range, Error>
+pub fn read_range(alloc: Global, row: &Row) -> Result<Range, Error>
     ensures value { IfOk result (λ r. length row.now ≡ 4 → row.now ≡ range_cells r) }
     ensures fails { IsRangeRow row.now → FailsForMemory result }
 {
