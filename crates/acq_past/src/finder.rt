@@ -144,9 +144,11 @@ impl<'a> Finder<'a> {
         }
     }
 
-    /// A completion that was accepted, or whose amount or day was refused, found an open hold.
+    /// A completion that was accepted found an open hold, and so did one whose amount was above what
+    /// the hold has, or whose day was full.
     fn answer_hold(&mut self, row: &Request, request: &CheckedRequest) -> Result<(), AllocError> {
-        if !is_refused(row) || is_refused_with(row, &[*b"13", *b"65"]) {
+        let above_hold = row.amount.is_accepted() && is_refused_with(row, &[*b"13"]);
+        if !is_refused(row) || above_hold || is_refused_with(row, &[*b"65"]) {
             if let Some(reference) = reference_in(&request.as_request().message) {
                 if let Some(hold) = self.places.admitted(row.key.merchant, reference) {
                     self.answer(hold)?;

@@ -578,6 +578,16 @@ IsMake said form read = read ≡ Ok (Make said form)
 abbrev pub AsksMake : OptionTexts → Result Action OptionName → Type 0
 AsksMake texts = Then (MadeFormIs texts) (IsMake (said_by texts.json))
 
+-- an audit of the book in this file, by the events of this one
+abbrev pub IsAudit : OptionTexts → String Global → Result Action OptionName → Type 0
+IsAudit texts path (Ok (actions.Audit asked)) =
+    (asked.path ≡ path) × (option_map string_bytes asked.events ≡ texts.events)
+IsAudit texts path other = ⊥
+
+-- what `audit` is asked for
+abbrev pub AsksAudit : OptionTexts → Result Action OptionName → Type 0
+AsksAudit texts = Then (FileIs texts) (IsAudit texts)
+
 -- ---- what the arguments ask for
 
 -- the command has this name, and asks for this by its options
@@ -610,6 +620,7 @@ Asks (Some command) asked =
     ⊎ Names (codes "find") AsksFind command asked
     ⊎ Names (codes "ranges") AsksRanges command asked
     ⊎ Names (codes "page") AsksPage command asked
+    ⊎ Names (codes "audit") AsksAudit command asked
 
 -- nothing is wrong with the words by clap's rules, and they ask for this
 abbrev pub AsksFor : List Text → Result Action OptionName → Type 0

@@ -156,6 +156,12 @@ tell =
 abbrev pub status : App
 status = with_rule (new_app (codes "status")) (required (codes "db"))
 
+-- `audit --db FILE [--events FILE]`
+abbrev pub audit : App
+audit =
+    with_rule (with_rule (new_app (codes "audit"))
+    (required (codes "db"))) (option (codes "events"))
+
 -- `page --control PATH --port P`
 abbrev pub page : App
 page =
@@ -175,8 +181,9 @@ program =
     with_subcommand (with_subcommand (with_subcommand (with_subcommand (with_subcommand
     (with_subcommand (with_subcommand (with_subcommand (with_subcommand (with_subcommand
     (with_subcommand (with_subcommand (with_subcommand (with_subcommand (with_subcommand
-    (with_subcommand (with_subcommand (with_subcommand (with_subcommand (with_subcommand acqd
+    (with_subcommand (with_subcommand (with_subcommand (with_subcommand (with_subcommand
+    (with_subcommand acqd
     init.top) migrate.top) once.top) listen.top) replay.top)
     clearing.top) report.top) statement.top) find.top) holds.top) list.top)
     ranges.top) pending.top) show.top) make.top) ask.top) explain.top) tell.top) status.top)
-    page.top
+    audit.top) page.top

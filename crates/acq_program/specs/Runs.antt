@@ -142,6 +142,8 @@ Does (Pending asked) remaining received sent told ended =
     EndsPlainly (λ _. received.after ≡ received.before) ended
 Does (Status asked) remaining received sent told ended =
     EndsPlainly (λ _. received.after ≡ received.before) ended
+Does (actions.Audit asked) remaining received sent told ended =
+    received.after ≡ received.before
 Does (actions.Page asked) remaining received sent told ended =
     EndsPlainly (λ _. IsUntouched received sent) ended
 Does (Show how form) remaining received sent told ended =

@@ -1,6 +1,7 @@
 //! What the program is asked to do.
 
 use crate::ask_options::AskOptions;
+use crate::audit_options::AuditOptions;
 use crate::csv_options::CsvOptions;
 use crate::find_options::FindOptions;
 use crate::host_ranges_options::HostRangesOptions;
@@ -62,6 +63,8 @@ pub enum Action {
     Tell(TellOptions),
     /// Write the figures of the book in the file at this path.
     Status(String),
+    /// Say whether the book in a file is what a host wrote.
+    Audit(AuditOptions),
     /// Show the page of a host that takes control connections.
     Page(PageOptions),
 }

@@ -3,7 +3,8 @@
 ghost use Rattle.std.specs.Prelude.{◌≡◌, [], List, map};
 ghost use Rattle.clap.specs.Words.{HasMatchesOf, Text, fault_of, found_of};
 ghost use Rattle.acq_program.specs.Program.{program};
-ghost use Rattle.acq_program.specs.Arguments.{AsksAsk, AsksBookRanges, AsksClearing, AsksExplain};
+ghost use Rattle.acq_program.specs.Arguments.{AsksAsk, AsksAudit, AsksBookRanges, AsksClearing};
+ghost use Rattle.acq_program.specs.Arguments.{AsksExplain};
 ghost use Rattle.acq_program.specs.Arguments.{AsksFind, AsksHolds, AsksHostRanges, AsksInit};
 ghost use Rattle.acq_program.specs.Arguments.{AsksList, AsksListen, AsksMake};
 ghost use Rattle.acq_program.specs.Arguments.{AsksMigrate, AsksOnce, AsksPage, AsksPending};
@@ -17,6 +18,7 @@ ghost use Rattle.acq_program.specs.Options.{found_texts};
 use crate::action::Action;
 use crate::apart::clash_in;
 use crate::ask_options::AskOptions;
+use crate::audit_options::AuditOptions;
 use crate::bounds::Bounds;
 use crate::csv_options::CsvOptions;
 use crate::find_options::FindOptions;
@@ -121,6 +123,7 @@ fn talks_asked_in(alloc: Global, matches: &ArgMatches) -> Result<Action, UsageFa
         Some(("explain", options)) => explain_of(alloc, options),
         Some(("tell", options)) => tell_of(alloc, options),
         Some(("status", options)) => status_of(alloc, options),
+        Some(("audit", options)) => audit_of(alloc, options),
         Some(("page", options)) => page_of(alloc, options),
         _ => Err(Error::from(AllocError).into()),
     }
@@ -453,6 +456,15 @@ fn status_of(alloc: Global, options: &ArgMatches) -> Result<Action, UsageFault>
 {
     let path = file_option(alloc, options)?;
     Ok(Action::Status(path))
+}
+
+/// What `audit` is asked for.
+fn audit_of(alloc: Global, options: &ArgMatches) -> Result<Action, UsageFault>
+    ensures { Reads (AsksAudit (found_texts (found_of options.now))) result }
+{
+    let path = file_option(alloc, options)?;
+    let events = events_option(alloc, options)?;
+    Ok(Action::Audit(AuditOptions { path, events }))
 }
 
 /// What `page` is asked for.

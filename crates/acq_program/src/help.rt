@@ -546,6 +546,33 @@ file failed. A fault is one line on standard error:
 Example:
   acqd status --db book.db";
 
+pub(crate) const ABOUT_AUDIT: &str = "Says whether the book in a file is what a host wrote";
+
+pub(crate) const MORE_OF_AUDIT: &str = "\
+Events are sought in the book's rows, or read from FILE, and taken by a new book in memory; then
+each row of each table of both books is compared. If none differs, `sound` goes to standard output:
+the book is what a host makes of these events. Else the first row that differs does, with its table,
+its number and what differs, as in
+  requests 17: amount differs
+  postings 8: missing
+What events could have made is no difference: another range, another limit, a later business day.
+FILE has the lines that `acqd replay` takes, from the first event on; with it each change is told.
+The book in memory takes some kilobytes for each request. Nothing in the book is changed.
+
+The status is 0 if the book is sound, 1 if a row differs or for a fault, 2 for wrong usage, 3 where
+memory ran out or the file failed. A fault is one line on standard error:
+  acqd: 1 Memory
+  acqd: 2 Store                    the file can't be opened or read
+  acqd: 40 NotABook                the file holds no book
+  acqd: 41 OtherVersion VERSION    the file holds a book of this other version
+  acqd: 53 Read                    FILE can't be read
+  acqd: 54 Write BYTES             a write failed after so many bytes of the text
+and what `acqd replay` tells of a line that is no event
+
+Examples:
+  acqd audit --db book.db
+  acqd audit --db book.db --events day.csv";
+
 pub(crate) const ABOUT_PAGE: &str = "Shows a page about a host to browsers of this machine";
 
 pub(crate) const MORE_OF_PAGE: &str = "\

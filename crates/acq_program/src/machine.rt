@@ -13,6 +13,7 @@ use acq_stand_in::StandIn;
 use card_no::RangeList;
 use day_totals::Day;
 use std::alloc::Global;
+use std::hash::RandomState;
 use std::net::SocketAddrV4;
 
 /// What a command finds on its machine: files, by their paths, ports, and time. `B` is the book in
@@ -71,6 +72,18 @@ pub trait Machine<B: Book + Drop>: Sized + Watch {
     /// the book, as a stop would leave them.
     fn close_book(book: B) -> Result<(), Fault>
         ensures { IfErr result IsClosing };
+
+    /// Compares the book in the file at a path with the one that events make: these, or without
+    /// them events that are sought in its rows. Returns the line of what differs first, if
+    /// something does. Nothing in the book is changed.
+    fn audit_book(
+        self,
+        alloc: Global,
+        keys: RandomState,
+        path: &str,
+        events: Option<Vec<Event>>,
+    ) -> Result<Option<Vec<u8>>, Fault>
+        ensures { IfErr result IsOpening };
 
     /// Reads the file of issuers' answers at a path.
     fn read_answers(&self, alloc: Global, path: &str) -> Result<StandIn, Fault>

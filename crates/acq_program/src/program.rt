@@ -487,6 +487,16 @@ const EXPLAIN: [Parameter<'static>; 6] = [
 /// What `status` takes.
 const STATUS: [Parameter<'static>; 1] = [BOOK];
 
+/// What `audit` takes.
+const AUDIT: [Parameter<'static>; 2] = [
+    BOOK,
+    Parameter {
+        name: "events",
+        kind: Optional("FILE"),
+        help: "The file of event lines that the book took [default: they are sought in its rows]",
+    },
+];
+
 /// What `page` takes.
 const PAGE: [Parameter<'static>; 2] = [
     Parameter {
@@ -502,7 +512,7 @@ const PAGE: [Parameter<'static>; 2] = [
 ];
 
 /// The commands, in the order in which the help has them.
-const COMMANDS: [CommandText<'static>; 20] = [
+const COMMANDS: [CommandText<'static>; 21] = [
     CommandText {
         name: "init",
         about: help::ABOUT_INIT,
@@ -616,6 +626,12 @@ const COMMANDS: [CommandText<'static>; 20] = [
         about: help::ABOUT_STATUS,
         more: help::MORE_OF_STATUS,
         parameters: &STATUS,
+    },
+    CommandText {
+        name: "audit",
+        about: help::ABOUT_AUDIT,
+        more: help::MORE_OF_AUDIT,
+        parameters: &AUDIT,
     },
     CommandText {
         name: "page",

@@ -15,6 +15,7 @@ ghost use Rattle.acq_program.specs.Runs.{ReadsWhole, Runs, ServesAsked, ServesIn
 ghost use Rattle.acq_program.specs.Runs.{plain_end, status_in};
 
 use crate::asking::ask_host;
+use crate::auditing::audit;
 use crate::explaining::explain;
 use crate::finding::write_found;
 use crate::listing::write_list;
@@ -146,6 +147,7 @@ fn run<B: Lenient + Drop, M: Machine<B> + Drop, C: Clock, S: Source, K: Sink, F:
         Action::Show(how, form) => plainly(show(alloc, how, form, input, output)),
         Action::Make(said, form) => plainly(make(alloc, said, &form, input, output)),
         Action::Status(path) => plainly(tell_status(alloc, machine, &path, output)),
+        Action::Audit(asked) => audit(alloc, keys, machine, &asked, output),
         Action::Page(asked) => plainly(serve_page(alloc, machine, &asked)),
         Action::Explain(asked) => {
             plainly(explain(alloc, keys, machine, &asked, clock, input, output))

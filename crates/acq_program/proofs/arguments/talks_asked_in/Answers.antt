@@ -1,8 +1,8 @@
 -- command by command: what the options were read as is what the arguments ask for
 use Rattle.std.proofs.Common.{◌∙◌, Some, codes, ap, sym, refl, inl, inr}
 use Rattle.clap.specs.Words.{found_of, rows_of}
-use Rattle.acq_program.specs.Arguments.{AsksAsk, AsksExplain, AsksMake, AsksPage, AsksStatus}
-use Rattle.acq_program.specs.Arguments.{AsksTell}
+use Rattle.acq_program.specs.Arguments.{AsksAsk, AsksAudit, AsksExplain, AsksMake, AsksPage}
+use Rattle.acq_program.specs.Arguments.{AsksStatus, AsksTell}
 use Rattle.acq_program.specs.Program.{program}
 use Rattle.acq_program.proofs.AskedCommands.{named, reads_command}
 use Rattle.acq_program.proofs.arguments.talks_asked_in.Goals as goal
@@ -75,9 +75,22 @@ returns-in-Some-page-default c = λ words well matches.
     let found = found_of it.options.now in
     reads_command (codes "page") AsksPage
     (λ command asked h.
-    inr (inr (inr (inr (inr (inr (inr (inr (inr (inr (inr (inr (inr (inr (inr (inr (inr (inr (inr h)))))))))))))))))))
+    inr (inr (inr (inr (inr (inr (inr (inr (inr (inr (inr (inr (inr (inr (inr (inr (inr (inr (inr (inl h))))))))))))))))))))
     words found well
     (named c.args.matches.now program words (codes "page") (rows_of found) refl
     matches (ap Some (sym it.is-page) ∙ it.ensures.name)
     it.ensures.rows)
     c.page_of.result c.page_of.ensures
+
+pub returns-in-Some-audit-default : goal.returns-in-Some-audit-default
+returns-in-Some-audit-default c = λ words well matches.
+    let it = c.in-Some-audit-default in
+    let found = found_of it.options.now in
+    reads_command (codes "audit") AsksAudit
+    (λ command asked h.
+    inr (inr (inr (inr (inr (inr (inr (inr (inr (inr (inr (inr (inr (inr (inr (inr (inr (inr (inr (inr h))))))))))))))))))))
+    words found well
+    (named c.args.matches.now program words (codes "audit") (rows_of found) refl
+    matches (ap Some (sym it.is-audit) ∙ it.ensures.name)
+    it.ensures.rows)
+    c.audit_of.result c.audit_of.ensures
