@@ -14,7 +14,7 @@ RANGES = ("addrange,34000000,34999999,1,3,", "addrange,41000000,41999999,12345,7
           "addrange,42000000,42999999,2,31,", "addrange,55000000,55999999,67890,1,")
 CLAIMS = {**{it: "0" * 10 for it in range(74, 78)}, **{it: "0" * 16 for it in range(86, 90)},
           97: "C" + "0" * 16}
-LIMIT = 250
+LIMIT = 60
 
 
 def shop_name(shop):
@@ -26,10 +26,13 @@ class Busy:
 
     def __init__(self, seed, messages=300, days=3):
         self.random, self.lines, self.trace = random.Random(seed), list(RANGES), 0
-        # What was asked for: kind, elements, shop.
-        self.asked = []
+        # What was asked for: kind, elements, shop. The next reference of each shop, if no day is
+        # full; what may wait for an answer, and what may be held.
+        self.asked, self.next, self.open, self.held = [], {}, [], []
+        self.ranges = {it.split(",")[1][:2] for it in RANGES}
         for shop, currency in SHOPS.items():
-            self.lines.append(f"enrol,{shop_name(shop)},{currency},{self.random.randrange(1, 99)},,")
+            self.next[shop] = self.random.randrange(1, 99)
+            self.lines.append(f"enrol,{shop_name(shop)},{currency},{self.next[shop]},,")
             self.lines += [f"terminal,{shop_name(shop)},TILL000{it},,," for it in range(2)]
         for day in range(days):
             for _ in range(messages):
@@ -85,10 +88,20 @@ class Busy:
             if self.random.random() < 0.4:
                 elements[number] = text
         self.frame(kind, shop, elements)
+        asks = elements[3][:2] == "00" or kind == "0200" and elements[3][:2] == "20"
+        if (asks and card[:2] in self.ranges and card != BAD_CARD and elements[49] == SHOPS[shop]
+                and 0 < int(elements[4]) < 10 ** 10
+                and elements.get(14, elements.get(35, "=2912")[-7:][:4]) in ("2912", "=291")):
+            self.open.append((shop, self.next[shop]))
+            self.held += [(shop, self.next[shop])] * (kind == "0100")
+            self.next[shop] += 1
 
     def complete(self, shop):
         """A completion of a hold, if there is one with this reference."""
-        reference = self.random.choice((f"{self.reference():012}",) * 9 + ("NO-REFERENCE",))
+        reference = "NO-REFERENCE"
+        if self.held and self.random.random() < 0.9:
+            shop, number = self.random.choice(self.held[-6:])
+            reference = f"{number:012}"
         self.frame("0220", shop, {
             3: "000000", 4: f"{self.random.choice((0, 1, 400, 500, 501)):012}", 37: reference,
             49: SHOPS[shop],
@@ -116,15 +129,18 @@ class Busy:
         """Another range in place of one, whose holds last otherwise; or none, or the first again."""
         _, low, high, issuer, _, _ = self.random.choice(RANGES).split(",")
         self.lines.append(f"droprange,{low},{high},,,")
+        self.ranges.discard(low[:2])
         if self.random.random() < 0.7:
             self.lines.append(f"addrange,{low},{high},{issuer},{self.random.randrange(1, 32)},")
-
-    def reference(self):
-        return self.random.randrange(1, 120)
+            self.ranges.add(low[:2])
 
     def answer(self, shop):
+        """An answer to one of those that wait, the first or a later one; or to any request."""
+        number = self.random.randrange(1, 120)
+        if self.open and self.random.random() < 0.9:
+            shop, number = self.open.pop(self.random.randrange(min(len(self.open), 4)))
         verdict = self.random.choice(("approved,A1B2C3",) * 6 + ("declined,51", "none,"))
-        self.lines.append(f"answer,{self.moment()},{shop_name(shop)},{self.reference()},{verdict}")
+        self.lines.append(f"answer,{self.moment()},{shop_name(shop)},{number},{verdict}")
 
     def sell_at_last(self):
         """A shop of its own, whose sale is approved."""

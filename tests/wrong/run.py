@@ -101,6 +101,7 @@ SCRIPTS = [
     ("migration", [("text replay", "the kiosk"), ("text clearing", "the clearing file")]),
     ("files one_file rows_changed", [("text replay", "the database alone")]),
     ("owed 20", [("text report", "what is owed"), ("text statement", "what it says is owed")]),
+    ("audit other_events", [("text audit", "more.csv")]),
     ("ranges lists 40", [
         ("text list", "the book's ranges"),
         ("text ranges", "the lines at another host"),
