@@ -1,5 +1,5 @@
 pub mod ReadBack
 pub mod Cleared
-mod Numbers
-mod Rows
+pub mod Numbers
+pub mod Rows
 mod Slices

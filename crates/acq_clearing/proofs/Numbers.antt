@@ -24,7 +24,7 @@ abbrev pub is_beside : Posting → Numbered → Bool
 is_beside p row = bytes_eq row.1.merchant p.merchant && (row.1.day == p.day)
 
 -- each number is at most how many of its merchant and day there are
-abbrev AreCounted : List Numbered → List Numbered → Type 0
+abbrev pub AreCounted : List Numbered → List Numbered → Type 0
 AreCounted whole rows = AllByRecursion (λ row. row.0 ≤ count (is_beside row.1) whole) rows
 
 -- a later one of the same merchant and day has a greater number
@@ -122,9 +122,15 @@ in_turn_after_any t None h = h
 in_turn_after_any t (Some c) h = in_turn_after t c h
 
 -- so tables with a past have it
-pub rising_by_past : (t : Tables) → HasPast t → AreRising t.postings
-rising_by_past t (opening, book) =
-    (subst (λ (s : Tables). AreInTurn s.postings) (sym book.after)
+in_turn_by_past : (t : Tables) → HasPast t → AreInTurn t.postings
+in_turn_by_past t (opening, book) =
+    subst (λ (s : Tables). AreInTurn s.postings) (sym book.after)
     (kept (λ (s : Tables). AreInTurn s.postings)
     (λ s a. in_turn_after_any s (change_for (known_in s a) a)) (new_tables opening)
-    book.events (record { counted = tt; rising = tt }))).rising
+    book.events (record { counted = tt; rising = tt }))
+
+pub counted_by_past : (t : Tables) → HasPast t → AreCounted t.postings t.postings
+counted_by_past t past = (in_turn_by_past t past).counted
+
+pub rising_by_past : (t : Tables) → HasPast t → AreRising t.postings
+rising_by_past t past = (in_turn_by_past t past).rising

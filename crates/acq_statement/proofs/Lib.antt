@@ -7,3 +7,8 @@ pub mod Posting
 pub mod Keeping
 pub mod Setting
 pub mod Owing
+pub mod Slicing
+pub mod SumsOfTerminals
+pub mod Numbers
+pub mod Settled
+pub mod Gathered

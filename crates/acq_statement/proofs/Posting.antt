@@ -65,7 +65,7 @@ totals_more rows row terminal =
 
 module _ (done : List (ℕ × Posting)) (row : ℕ × Posting) where
   -- a terminal, after one posting more
-  one_more : (id : List ℕ) →
+  pub one_more : (id : List ℕ) →
       with_posting row.1 (sums_at_terminal done id) ≡ sums_at_terminal (done ++ row ∷ []) id
   one_more id =
       at (bytes_eq row.1.terminal id)

@@ -14,6 +14,8 @@ pub mod TerminalTotals
 pub mod LegTexts
 pub mod Lines
 pub mod Statement
+pub mod Slices
+pub mod Gathered
 pub mod ClaimRows
 pub mod TerminalRows
 pub mod ClaimTotals

@@ -10,25 +10,24 @@ use crate::claims::claims_on;
 use crate::lines::DayLines;
 use crate::part::{Part, put_each};
 use crate::piece::Piece;
-use crate::terminal_sums::{TerminalSums, terminal_sums};
+use crate::terminal_sums::TerminalSums;
 use acq_book::{Book, BookFault};
-use acq_core::Terminal;
 use acq_link::Sink;
 use acq_reports::Report;
 use std::alloc::AllocError;
 
-/// The block of a merchant's day, over the merchant's terminals and claims.
+/// The block of a merchant's day, over the sums of the merchant's terminals, and its claims.
 #[derive(Clone, Copy)]
 pub(crate) struct Block<'a> {
     pub lines: DayLines,
-    pub terminals: &'a [Terminal],
+    pub sums: &'a [TerminalSums],
     pub claims: &'a [Claim],
 }
 
 impl Part<Piece> for Block<'_> {
     ghost use Rattle.acq_statement.specs.Statement.{piece_text};
 
-    ghost text = { λ part piece t. piece_text part.lines.form part.terminals.now part.claims.now t
+    ghost text = { λ part piece t. piece_text part.lines.form part.sums.now part.claims.now t
         part.lines.merchant part.lines.day piece };
 
     fn put<B: Book, K: Sink>(
@@ -57,14 +56,11 @@ impl Block<'_> {
         report: &mut Report<'_, K>,
     ) -> Result<bool, BookFault>
         ensures { PutsPart B.Book K.sent K.failures (λ t. piece_text self.now.lines.form
-            self.now.terminals.now self.now.claims.now t self.now.lines.merchant
+            self.now.sums.now self.now.claims.now t self.now.lines.merchant
             self.now.lines.day Terminals) book.old book.new report.old report.new result }
     {
-        let merchant = self.lines.merchant.id;
-        let alloc = report.alloc();
-        let sums = terminal_sums(alloc, book, self.terminals, merchant, self.lines.day)?;
         let part = TerminalLine { lines: self.lines };
-        put_each(book, sums.as_slice(), &part, report)
+        put_each(book, self.sums, &part, report)
     }
 
     fn put_total<B: Book, K: Sink>(
@@ -73,7 +69,7 @@ impl Block<'_> {
         report: &mut Report<'_, K>,
     ) -> Result<bool, BookFault>
         ensures { PutsPart B.Book K.sent K.failures (λ t. piece_text self.now.lines.form
-            self.now.terminals.now self.now.claims.now t self.now.lines.merchant
+            self.now.sums.now self.now.claims.now t self.now.lines.merchant
             self.now.lines.day Total) book.old book.new report.old report.new result }
     {
         let totals = book.totals(self.lines.merchant.id, self.lines.day)?;
@@ -86,7 +82,7 @@ impl Block<'_> {
         report: &mut Report<'_, K>,
     ) -> Result<bool, BookFault>
         ensures { PutsPart B.Book K.sent K.failures (λ t. piece_text self.now.lines.form
-            self.now.terminals.now self.now.claims.now t self.now.lines.merchant
+            self.now.sums.now self.now.claims.now t self.now.lines.merchant
             self.now.lines.day Claims) book.old book.new report.old report.new result }
     {
         let claims = match claims_on(report.alloc(), self.lines.day, self.claims) {
@@ -103,7 +99,7 @@ impl Block<'_> {
         report: &mut Report<'_, K>,
     ) -> Result<bool, BookFault>
         ensures { PutsPart B.Book K.sent K.failures (λ t. piece_text self.now.lines.form
-            self.now.terminals.now self.now.claims.now t self.now.lines.merchant
+            self.now.sums.now self.now.claims.now t self.now.lines.merchant
             self.now.lines.day Owed) book.old book.new report.old report.new result }
     {
         let totals = book.totals(self.lines.merchant.id, self.lines.day)?;

@@ -7,18 +7,24 @@ ghost use Rattle.acq_statement.specs.Claims.{claims_at, claims_of, claims_on};
 
 use crate::asked::Asked;
 use crate::claim::Claim;
+use crate::slices::goes_on;
 use acq_book::{Book, BookFault, Visit};
 use acq_core::{MerchantId, Request};
 use day_totals::Day;
 use std::alloc::{AllocError, Global};
 
-/// The claims among the requests that were handed over, unless memory ran out.
+/// The claims among the requests that were handed over, up to a row.
 #[derive(Drop)]
-struct Claims<'a> {
-    alloc: Global,
-    asked: Asked<'a>,
-    claims: Vec<Claim>,
-    is_short: bool,
+pub(crate) struct Claims<'a> {
+    pub(crate) alloc: Global,
+    pub(crate) asked: Asked<'a>,
+    pub(crate) claims: Vec<Claim>,
+    /// How many rows were looked at, with those before the walk.
+    pub(crate) looked: u64,
+    /// With so many the walk ends.
+    pub(crate) end: Option<u64>,
+    /// Memory ran out.
+    pub(crate) is_short: bool,
 }
 
 impl Visit<Request> for Claims<'_> {
@@ -28,7 +34,7 @@ impl Visit<Request> for Claims<'_> {
 
     fn row(&mut self, row: &Request) -> bool {
         match self.add(row) {
-            Ok(()) => true,
+            Ok(()) => goes_on(self.end, self.looked),
             Err(AllocError) => {
                 self.is_short = true;
                 false
@@ -38,7 +44,7 @@ impl Visit<Request> for Claims<'_> {
 }
 
 impl Claims<'_> {
-    ghost use Rattle.std.specs.Prelude.{◌++◌, [], OnOk};
+    ghost use Rattle.std.specs.Prelude.{◌++◌, ◌+◌, [], OnOk};
     ghost use Rattle.std.specs.List.{cons_option};
     ghost use Rattle.acq_statement.specs.Claims.{claim_in};
 
@@ -46,13 +52,18 @@ impl Claims<'_> {
     fn add(&mut self, row: &Request) -> Result<(), AllocError>
         ensures claims { OnOk result (self.new.claims.items ≡ self.old.claims.items
             ++ cons_option (claim_in self.old.asked.merchants.now self.old.asked.days row.now) []) }
+        ensures looked { OnOk result (self.new.looked ≡ self.old.looked + 1) }
+        ensures end { self.new.end ≡ self.old.end }
         ensures asked { self.new.asked ≡ self.old.asked }
-        ensures is_short { self.new.is_short ≡ self.old.is_short }
     {
+        let Some(looked) = self.looked.checked_add(1) else {
+            return Err(AllocError);
+        };
         match self.asked.claim_in(self.alloc, row)? {
             Some(claim) => self.claims.push(claim)?,
             None => {}
         }
+        self.looked = looked;
         Ok(())
     }
 }
@@ -75,6 +86,8 @@ pub(crate) fn asked_claims<B: Book>(
             days: asked.days,
         },
         claims: Vec::new(alloc),
+        looked: 0,
+        end: None,
         is_short: false,
     };
     book.walk_requests_behind(0, &mut seen)?;

@@ -1,9 +1,14 @@
-//! Texts, computed.
+//! Texts, computed, and what holds of them whatever comes.
 
-ghost use Rattle.std.specs.Prelude.{◌≡◌, ◌++◌, ◌∷◌, [], ◌-ℤ◌, neg_ℤ, pos, None, Some, codes};
+ghost use Rattle.std.specs.Prelude.{◌≡◌, ◌++◌, ◌∷◌, [], ◌-ℤ◌, neg_ℤ, pos, List, None, Some};
+ghost use Rattle.std.specs.Prelude.{codes};
+ghost use Rattle.acq_core.specs.Tables.{Tables, tables_after};
+ghost use Rattle.acq_core.specs.declared.event.Event.{Event};
 ghost use Rattle.day_totals.specs.Totals.{DayTotals, net_of};
 ghost use Rattle.acq_reports.specs.declared.report_fault.ReportFault.TheVariants.{NoSuchMerchant};
 ghost use Rattle.acq_statement.specs.DaySums.{day_sums, sums_header};
+ghost use Rattle.acq_statement.specs.Gathered.{IsGathered};
+ghost use Rattle.acq_statement.specs.declared.gathering.Gathering.{Gathering};
 ghost use Rattle.acq_statement.specs.LegTexts.{due_to_acquirer, due_to_merchant};
 ghost use Rattle.acq_statement.specs.Span.{days_of, statement_refusal};
 ghost use Rattle.acq_statement.specs.Sums.{owed_of};
@@ -73,6 +78,12 @@ pub fn worked_statement_csv()
         ++ codes "MERCHANT0000001,978,2024-05-01,claimed,TERM0001,000011,0,0,0,0,2,3500,0,0,3500\n"
         ++ codes "MERCHANT0000001,978,2024-05-01,found,TERM0001,000011,0,0,0,0,2,3500,1,400,3100\n"
         ++ codes ",978,,currency,,,0,0,0,0,2,3500,1,400,3100\n" }
+{}
+
+/// What is gathered stays gathered, whatever events are taken.
+pub fn what_is_gathered_stays_gathered()
+    ensures { (t : Tables) (events : List Event) (gathering : Gathering) → IsGathered t gathering
+        → IsGathered (tables_after t events) gathering }
 {}
 
 /// What is owed to a merchant is minus the net of its totals, and what is due to it less what is

@@ -6,6 +6,9 @@
 //! total and what was reconciled, as text or as CSV. The texts are defined over the tables in
 //! `specs/ReportCsv.antt` and `specs/Statement.antt`. They are put in parts, one for each item of a
 //! list (`part.rt`), so no more of a text is held than a record.
+//!
+//! A [`Gathering`] comes to the statement of a merchant's day slice by slice, while events are taken
+//! between the slices.
 #![tactic(auto)]
 
 mod asked;
@@ -20,6 +23,7 @@ mod day_sums;
 mod days;
 mod enrolled;
 mod figures;
+mod gathering;
 pub mod laws;
 mod leg_sum;
 mod leg_texts;
@@ -27,7 +31,9 @@ mod lines;
 mod merchant_records;
 mod part;
 mod piece;
+mod posted_sums;
 mod report_csv;
+mod slices;
 mod statement;
 mod statement_blocks;
 mod statement_form;
@@ -37,6 +43,7 @@ mod terminals;
 
 pub use day_sums::write_day_sums;
 pub use days::Days;
+pub use gathering::Gathering;
 pub use report_csv::write_report_csv;
 pub use statement::write_statement;
 pub use statement_form::StatementForm;

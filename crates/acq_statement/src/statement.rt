@@ -8,7 +8,7 @@ ghost use Rattle.acq_statement.specs.Currencies.{currency_sums};
 ghost use Rattle.acq_statement.specs.Lines.{currency_lines, statement_header};
 ghost use Rattle.acq_statement.specs.Parts.{PutsPart};
 ghost use Rattle.acq_statement.specs.Span.{statement_refusal};
-ghost use Rattle.acq_statement.specs.Statement.{merchant_blocks, statement_on, statement_text};
+ghost use Rattle.acq_statement.specs.Statement.{statement_text, statement_with};
 
 use crate::asked::{Asked, asked_merchants, check_asked};
 use crate::claims::asked_claims;
@@ -16,7 +16,7 @@ use crate::currencies::currencies_of;
 use crate::currency_lines::CurrencyLines;
 use crate::days::Days;
 use crate::lines::statement_header;
-use crate::part::{put_each, walk_of};
+use crate::part::{Part, put_each, walk_of};
 use crate::statement_blocks::MerchantBlocks;
 use crate::statement_form::StatementForm;
 use crate::terminals::all_terminals;
@@ -71,60 +71,59 @@ pub fn write_statement<B: Book, K: Sink>(
         claims: claims.as_slice(),
         days: days.as_slice(),
     };
-    write_blocks(alloc, book, &blocks, rows.as_slice(), writer)
+    let sums = CurrencyLines {
+        form,
+        merchants: rows.as_slice(),
+        days: days.as_slice(),
+    };
+    write_blocks(alloc, book, &blocks, &sums, writer)
 }
 
-/// Writes the statement of these merchants.
-fn write_blocks<B: Book, K: Sink>(
+/// Writes the statement of the merchants of these sums: what is written of each, and the sums.
+pub(crate) fn write_blocks<B: Book, K: Sink, P: Part<Merchant>>(
     alloc: Global,
     book: &mut B,
-    blocks: &MerchantBlocks<'_>,
-    merchants: &[Merchant],
+    blocks: &P,
+    sums: &CurrencyLines<'_>,
     writer: &mut K,
 ) -> Result<(), ReportFault>
     ensures text { B.is_honest book.new → B.is_open book.old → Writes K.sent K.failures
-        (statement_on blocks.now.form blocks.now.terminals.now blocks.now.claims.now
-        (B.tables book.old) blocks.now.days.now merchants.now) writer.old writer.new result }
+        (statement_with sums.now.form
+        (λ merchant. P.text blocks.now merchant (B.tables book.old))
+        (B.tables book.old) sums.now.days.now sums.now.merchants.now)
+        writer.old writer.new result }
     ensures writes { K.failures writer.new ≡ K.failures writer.old + failed_writes result }
     ensures looks { Looks B.Book book.old book.new (is_settled result) }
     ensures store { CountsStore result (B.failures book.old) (B.failures book.new) }
 {
-    let currencies = match currencies_of(alloc, merchants) {
+    let currencies = match currencies_of(alloc, sums.merchants) {
         Ok(currencies) => currencies,
         Err(AllocError) => return Err(ReportFault::Memory),
     };
     let mut report = Report::new(alloc, writer);
-    let written = put_statement(book, blocks, merchants, currencies.as_slice(), &mut report);
+    let written = put_statement(book, blocks, sums, currencies.as_slice(), &mut report);
     report.end(walk_of(written))
 }
 
-/// Puts the header, the blocks of these merchants, and the sums of these currencies.
-fn put_statement<B: Book, K: Sink>(
+/// Puts the header, what is written of each merchant, and the sums of these currencies.
+fn put_statement<B: Book, K: Sink, P: Part<Merchant>>(
     book: &mut B,
-    blocks: &MerchantBlocks<'_>,
-    merchants: &[Merchant],
+    blocks: &P,
+    sums: &CurrencyLines<'_>,
     currencies: &[Currency],
     report: &mut Report<'_, K>,
 ) -> Result<bool, BookFault>
-    ensures { PutsPart B.Book K.sent K.failures (λ t. statement_header blocks.now.form
-        ++ flat_map (merchant_blocks blocks.now.form blocks.now.terminals.now
-        blocks.now.claims.now t blocks.now.days.now) merchants.now
-        ++ flat_map (λ currency. currency_lines blocks.now.form currency
-        (currency_sums t blocks.now.days.now merchants.now currency)) currencies.now)
+    ensures { PutsPart B.Book K.sent K.failures (λ t. statement_header sums.now.form
+        ++ flat_map (λ merchant. P.text blocks.now merchant t) sums.now.merchants.now
+        ++ flat_map (λ currency. currency_lines sums.now.form currency
+        (currency_sums t sums.now.days.now sums.now.merchants.now currency)) currencies.now)
         book.old book.new report.old report.new result }
 {
-    if !report.put(statement_header(blocks.form)) {
+    if !report.put(statement_header(sums.form)) {
         return Ok(false);
     }
-    match put_each(book, merchants, blocks, report) {
-        Ok(true) => {
-            let sums = CurrencyLines {
-                form: blocks.form,
-                merchants,
-                days: blocks.days,
-            };
-            put_each(book, currencies, &sums, report)
-        }
+    match put_each(book, sums.merchants, blocks, report) {
+        Ok(true) => put_each(book, currencies, sums, report),
         Ok(false) => Ok(false),
         Err(fault) => Err(fault),
     }

@@ -9,7 +9,7 @@ use crate::lines::DayLines;
 use crate::part::{Part, put_each};
 use crate::piece::Piece;
 use crate::statement_form::StatementForm;
-use crate::terminal_sums::terminals_of;
+use crate::terminal_sums::{TerminalSums, terminal_sums, terminals_of};
 use acq_book::{Book, BookFault};
 use acq_core::{Merchant, Terminal};
 use acq_link::Sink;
@@ -78,14 +78,56 @@ impl Part<Day> for DayBlocks<'_> {
         item: &Day,
         report: &mut Report<'_, K>,
     ) -> Result<bool, BookFault> {
+        let merchant = self.merchant.id;
+        let sums = terminal_sums(report.alloc(), book, self.terminals, merchant, *item)?;
         let block = Block {
             lines: DayLines {
                 form: self.form,
                 merchant: self.merchant,
                 day: *item,
             },
-            terminals: self.terminals,
+            sums: sums.as_slice(),
             claims: self.claims,
+        };
+        put_each(book, &Piece::ALL, &block, report)
+    }
+}
+
+/// The block of a day of a merchant whose terminals' sums are at hand, over the claims of all
+/// merchants.
+#[derive(Clone, Copy)]
+pub(crate) struct SummedBlock<'a> {
+    pub form: StatementForm,
+    pub day: Day,
+    pub sums: &'a [TerminalSums],
+    pub claims: &'a [Claim],
+}
+
+impl Part<Merchant> for SummedBlock<'_> {
+    ghost use Rattle.acq_statement.specs.Claims.{claims_of};
+    ghost use Rattle.acq_statement.specs.Statement.{block_of};
+
+    ghost text = { λ part merchant t. block_of part.form part.sums.now
+        (claims_of merchant.id part.claims.now) t merchant part.day };
+
+    fn put<B: Book, K: Sink>(
+        &self,
+        book: &mut B,
+        item: &Merchant,
+        report: &mut Report<'_, K>,
+    ) -> Result<bool, BookFault> {
+        let claims = match claims_of(report.alloc(), item.id, self.claims) {
+            Ok(claims) => claims,
+            Err(AllocError) => return Err(BookFault::Memory),
+        };
+        let block = Block {
+            lines: DayLines {
+                form: self.form,
+                merchant: *item,
+                day: self.day,
+            },
+            sums: self.sums,
+            claims: claims.as_slice(),
         };
         put_each(book, &Piece::ALL, &block, report)
     }

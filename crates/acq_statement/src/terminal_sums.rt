@@ -38,7 +38,7 @@ impl Visit<(u64, Posting)> for AtTerminals {
 }
 
 /// Adds a posting to the sums of its terminal.
-fn add_posting(sums: &mut [TerminalSums], posting: &Posting)
+pub(crate) fn add_posting(sums: &mut [TerminalSums], posting: &Posting)
     ensures { sums.new ≡ map (with_posting posting.now) sums.old }
 {
     for at in 0..sums.len() {
@@ -107,12 +107,19 @@ pub(crate) fn terminals_of(
 }
 
 /// A terminal before anything is posted.
-#[tactic(auto, unfolding(day_totals::specs::Totals::totals_of))]
 fn idle_terminal(terminal: &Terminal) -> TerminalSums
     ensures { result ≡ sums_at_terminal [] terminal.now.id }
 {
+    idle(terminal.id)
+}
+
+/// One of this name.
+#[tactic(auto, unfolding(day_totals::specs::Totals::totals_of))]
+pub(crate) fn idle(id: TerminalId) -> TerminalSums
+    ensures { result ≡ sums_at_terminal [] id }
+{
     TerminalSums {
-        id: terminal.id,
+        id,
         sums: Sums::none(),
     }
 }

@@ -1,5 +1,6 @@
 use Rattle.std.proofs.Common.{sym, ◌∙◌}
-use Rattle.acq_statement.specs.Statement.{statement_on}
+use Rattle.acq_core.specs.declared.merchant.Merchant.{Merchant}
+use Rattle.acq_statement.specs.Statement.{statement_with}
 use Rattle.acq_statement.proofs.Parts.{lines_report}
 use Rattle.acq_reports.proofs.Lines.{finished}
 use Rattle.acq_statement.proofs.statement.write_blocks.Goals as goal
@@ -10,9 +11,10 @@ returns-clause-text g c = λ honest opened.
     let failures = g.K.Sink.failures in
     let start = c.new-report in
     let written = c.put_statement-written in
-    let blocks = c.args.blocks.now in
-    let text = statement_on blocks.form blocks.terminals.now blocks.claims.now
-    (g.B.Book.tables c.args.book.now) blocks.days.now c.args.merchants.now in
+    let sums = c.args.sums.now in
+    let first = g.B.Book.tables c.args.book.now in
+    let text = statement_with sums.form (λ (merchant : Merchant).
+    g.P.Part.text c.args.blocks.now merchant first) first sums.days.now sums.merchants.now in
     let puts = written.ensures.puts honest opened in
     let same = rw (c.as_slice.ensures.value, c.in-Ok.ensures) at puts in
     finished sent failures text start.result

@@ -5,7 +5,7 @@ use Rattle.acq_reports.specs.declared.report_fault.ReportFault.{ReportFault}
 use Rattle.acq_reports.specs.Writing.{Reports}
 use Rattle.acq_statement.specs.Claims.{claims_at}
 use Rattle.acq_statement.specs.Span.{asked_merchants}
-use Rattle.acq_statement.specs.Statement.{statement_on, statement_text}
+use Rattle.acq_statement.specs.Statement.{merchant_blocks, statement_text, statement_with}
 use Rattle.acq_statement.proofs.statement.write_statement.Goals as goal
 
 -- what was found before is what the tables had at first
@@ -39,10 +39,12 @@ returns-clause-text g c = λ honest opened.
     let claims_are = c.as_slice-2.ensures.value
     ∙ (claims.claims honest3 opened2 ∙ ap (λ t. claims_at t asked days) same2) in
     let days_are = c.as_slice-3.ensures.value ∙ c.in-Ok.ensures in
+    let sum_days_are = c.as_slice-5.ensures.value ∙ c.in-Ok.ensures in
     let rows_are = c.as_slice-4.ensures.value
     ∙ (rows.rows honest2 opened1 ∙ ap (λ t. asked_merchants t asked) same1) in
     let text_is : _ ≡ statement_text first asked days form =
-    λ i. statement_on form (terminals_are i) (claims_are i) (same4 i) (days_are i) (rows_are i) in
+    λ i. statement_with form (merchant_blocks form (terminals_are i) (claims_are i) (same4 i)
+    (days_are i)) (same4 i) (sum_days_are i) (rows_are i) in
     subst (λ (refusal : Option ReportFault). Reports refusal (statement_text first asked days form)
     old new c.write_blocks.result) (sym (check.refuses honest1 opened))
     (subst (λ (text : List ℕ). Reports None text old new c.write_blocks.result) text_is

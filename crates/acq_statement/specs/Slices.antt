@@ -1,0 +1,7 @@
+-- Rows that are gone over slice by slice.
+use Rattle.std.specs.Prelude.{ℕ, nat_lt, Bool, true, Option, Some, None}
+
+-- a walk goes on to its end, if it has one
+abbrev pub goes_on : Option ℕ → ℕ → Bool
+goes_on None rows = true
+goes_on (Some end) rows = nat_lt rows end
