@@ -6,6 +6,7 @@ ghost use Rattle.std.specs.Prelude.{◌≤◌};
 
 mod apart;
 mod at_once;
+mod auditing;
 mod book_files;
 mod book_signs;
 mod control_host;

@@ -6,6 +6,7 @@ ghost use Rattle.acq_program.specs.BookFaults.{IsClosing, IsOfEvents, IsOfRanges
 ghost use Rattle.acqd.specs.BookFiles.{of_opening};
 
 use crate::apart::names_a_file_twice;
+use crate::auditing::audit_line;
 use crate::book_files::find_book;
 use crate::control_host::control_host;
 use crate::control_socket::{control_socket, remove_socket};
@@ -37,6 +38,7 @@ use sqlite_std_file::FileFrom;
 use sqlite_store::FileStore;
 use std::alloc::Global;
 use std::fs::File;
+use std::hash::RandomState;
 use std::net::{Ipv4Addr, SocketAddr, SocketAddrV4, TcpListener, TcpStream};
 use std::os::unix::net::UnixStream;
 use std::time::{Duration, Instant};
@@ -160,6 +162,25 @@ impl<'a, D: Start> Machine<OnceBook<FileStore<FileFrom<D>>>> for ThisMachine<'a,
         match book.into_book().close() {
             Ok(()) => Ok(()),
             Err(error) => Err(fault_of_closing(&error)),
+        }
+    }
+
+    fn audit_book(
+        self,
+        alloc: Global,
+        keys: RandomState,
+        path: &str,
+        events: Option<Vec<Event>>,
+    ) -> Result<Option<Vec<u8>>, Fault> {
+        if let Err(cause) = find_book(self.rt, path) {
+            return Err(fault_of_opening(cause));
+        }
+        match open_book(self.rt, path, self.start) {
+            Ok(book) => {
+                self.signs.opened_book();
+                audit_line(alloc, keys, book.into_connection(), events)
+            }
+            Err(none) => Err(fault_of_opening(none.into_fault())),
         }
     }
 

@@ -1,0 +1,43 @@
+//! Audits of books.
+
+ghost use Rattle.std.specs.Prelude.{IfErr};
+ghost use Rattle.acq_program.specs.BookFaults.{IsOpening};
+
+use acq_commands::TextSink;
+use acq_core::Event;
+use acq_faults::Fault;
+use acq_link::MemorySink;
+use acq_sql_audit::{AuditFault, Difference};
+use acq_sql_past::audit_book;
+use sqlite::{Alter, Connection};
+use std::alloc::Global;
+use std::fmt::Write;
+use std::hash::RandomState;
+
+/// The line of what differs first between the book in a database and the one that events make, if
+/// something does. It is said of any store: a proof over that of this machine alone takes minutes.
+pub(crate) fn audit_line<S: Alter + Drop>(
+    alloc: Global,
+    keys: RandomState,
+    mut connection: Connection<S>,
+    events: Option<Vec<Event>>,
+) -> Result<Option<Vec<u8>>, Fault>
+    ensures { IfErr result IsOpening }
+{
+    match audit_book(alloc, keys, &mut connection, events) {
+        Ok(None) => Ok(None),
+        Ok(Some(difference)) => match line_of(alloc, &difference) {
+            Some(line) => Ok(Some(line)),
+            None => Err(Fault::Memory),
+        },
+        Err(AuditFault::Memory) => Err(Fault::Memory),
+        Err(AuditFault::Store) => Err(Fault::Store),
+    }
+}
+
+/// The line of a difference, if there is memory for it.
+fn line_of(alloc: Global, difference: &Difference) -> Option<Vec<u8>> {
+    let mut text = MemorySink::new(alloc);
+    writeln!(TextSink::new(&mut text), "{difference}").ok()?;
+    Vec::from_slice(alloc, text.as_bytes()).ok()
+}
