@@ -1,0 +1,4 @@
+pub mod Compared
+pub mod Differences
+pub mod Answered
+pub mod Audited
