@@ -2,18 +2,12 @@
 use Rattle.std.proofs.Common.{◌≡◌, ◌∙◌, ◌++◌, ◌∷◌, ℕ, Bool, true, false, cond, List, []}
 use Rattle.std.proofs.Common.{inl, inr, refl, sym, ap, subst, true≢false, append-nil, append_assoc}
 use Rattle.std.specs.Prelude.{◌&&◌, filter, flat_map}
-use Rattle.std.specs.Str.{bytes_eq}
 use Rattle.acq_book.specs.Visits.{SawAll}
 use Rattle.acq_core.specs.declared.posting.Posting.{Posting}
 use Rattle.acq_core.specs.declared.request.Request.{Request}
-use Rattle.acq_core.specs.Tables.{requests_of}
-use Rattle.acq_inquiry.specs.Gathering.{Finds, PutsPosting, Relates, references_if, row_if}
-use Rattle.acq_inquiry.specs.Inquiries.{is_asked, is_found, references_of, related_by}
+use Rattle.acq_inquiry.specs.Gathering.{PutsPosting}
 use Rattle.acq_inquiry.specs.PostingLines.{posting_line}
-use Rattle.acq_inquiry.specs.declared.found_rows.FoundRows.{FoundRows}
-use Rattle.acq_inquiry.specs.declared.inquiry.Inquiry.{Inquiry}
 use Rattle.acq_inquiry.specs.declared.posting_lines.PostingLines.{PostingLines}
-use Rattle.acq_inquiry.specs.declared.related.Related.{Related}
 
 -- `items` is what a visitor gathered, `gives` what a row adds, and `one` and `short` say what a row
 -- makes of it, as long as it keeps what it looks for
@@ -62,51 +56,6 @@ given_twice p q f (row ∷ rows) =
 pub each_alone : {Row : Type 0} (rows : List Row) → flat_map (λ row. row ∷ []) rows ≡ rows
 each_alone [] = refl
 each_alone (row ∷ rows) = ap (λ xs. row ∷ xs) (each_alone rows)
-
--- the references of the requests that are asked for
-pub all_related : (m : List ℕ) (inquiry : Inquiry) (rows : List Request) (v w : Related) →
-    v.merchant ≡ m → v.inquiry ≡ inquiry → v.references.items ≡ [] →
-    SawAll Relates rows v w → w.is_short ≡ false →
-    (w.references.items ≡ related_by inquiry (requests_of m rows)) × (w.merchant ≡ m)
-    × (w.inquiry ≡ inquiry)
-all_related m inquiry rows v w named asked none saw whole =
-    let all = all_gathered Relates (λ u. u.references.items) (λ u. u.is_short)
-    (λ u. (u.merchant ≡ m) × (u.inquiry ≡ inquiry)) (references_if m inquiry)
-    (λ u row x kept seen. (
-      seen.0 ∙ ap (λ xs. u.references.items ++ xs)
-          (ap (λ k. references_if k u.inquiry row) kept.0
-          ∙ ap (λ i. references_if m i row) kept.1),
-      (seen.1 ∙ kept.0, seen.2 ∙ kept.1),
-    ))
-    (λ u row x seen. seen) rows v w (named, asked) saw whole in (
-      all.0
-          ∙ (ap (λ xs. xs ++ flat_map (references_if m inquiry) rows) none
-          ∙ given_twice (λ row. bytes_eq row.key.merchant m) (is_asked inquiry) references_of rows),
-      all.1.0,
-      all.1.1,
-    )
-
--- the requests that are found by what they are related to
-pub all_found : (related : Related) (rows : List Request) (v w : FoundRows) →
-    v.related ≡ related → v.rows.items ≡ [] → SawAll Finds rows v w → w.is_short ≡ false →
-    w.rows.items
-    ≡ filter (is_found related.inquiry related.references.items) (requests_of related.merchant rows)
-all_found related rows v w kept none saw whole =
-    let given = row_if related.merchant related.inquiry related.references.items in
-    let all = all_gathered Finds (λ u. u.rows.items) (λ u. u.is_short)
-    (λ u. u.related ≡ related) given
-    (λ u row x same seen. (
-      seen.0 ∙ ap (λ (r : Related). u.rows.items
-          ++ row_if r.merchant r.inquiry r.references.items row) same,
-      seen.1 ∙ same,
-    ))
-    (λ u row x seen. seen) rows v w kept saw whole in
-    all.0
-    ∙ (ap (λ xs. xs ++ flat_map given rows) none
-    ∙ (given_twice (λ row. bytes_eq row.key.merchant related.merchant)
-    (is_found related.inquiry related.references.items) (λ row. row ∷ []) rows
-    ∙ each_alone (filter (is_found related.inquiry related.references.items)
-    (requests_of related.merchant rows))))
 
 -- the lines of the postings that a request made
 pub all_posted : (request : Request) (rows : List (ℕ × Posting)) (v w : PostingLines) →

@@ -4,15 +4,12 @@ use Rattle.std.specs.Prelude.{◌++◌, if◌then◌else◌, Option, Some, None}
 use Rattle.std.specs.Str.{bytes_eq}
 use Rattle.acq_core.specs.declared.posting.Posting.{Posting}
 use Rattle.acq_core.specs.declared.request.Request.{Request}
-use Rattle.acq_core.specs.Tables.{Tables, requests_of}
-use Rattle.acq_inquiry.specs.declared.found_rows.FoundRows.{FoundRows}
 use Rattle.acq_inquiry.specs.declared.inquiry.Inquiry.{Inquiry}
 use Rattle.acq_inquiry.specs.declared.looking.Looking.{Looking}
 use Rattle.acq_inquiry.specs.declared.posting_lines.PostingLines.{PostingLines}
-use Rattle.acq_inquiry.specs.declared.related.Related.{Related}
 use Rattle.acq_inquiry.specs.declared.rows_at.Copying.{Copying}
 use Rattle.acq_inquiry.specs.declared.seeing.Seeing.{Seeing}
-use Rattle.acq_inquiry.specs.Inquiries.{is_asked, is_found, references_of, related_by}
+use Rattle.acq_inquiry.specs.Inquiries.{is_asked, is_found, references_of}
 use Rattle.acq_inquiry.specs.PostingLines.{posting_line}
 
 -- the references of a request of a merchant, where it is asked for
@@ -20,34 +17,10 @@ abbrev pub references_if : List ℕ → Inquiry → Request → List ℕ
 references_if merchant inquiry row =
     if bytes_eq row.key.merchant merchant && is_asked inquiry row then references_of row else []
 
--- a row's references are there if it is asked for, or memory ran out
-abbrev pub Relates : Related → Request → Bool → Related → Type 0
-Relates old row true new =
-    (new.references.items
-    ≡ old.references.items ++ references_if old.merchant old.inquiry row)
-    × (new.merchant ≡ old.merchant) × (new.inquiry ≡ old.inquiry)
-Relates old row false new = new.is_short ≡ true
-
--- what a request is related by: a merchant, an inquiry, and the references of the merchant's
--- requests that are asked for
-abbrev pub IsRelatedAt : Tables → List ℕ → Inquiry → Related → Type 0
-IsRelatedAt t merchant inquiry related =
-    (related.references.items ≡ related_by inquiry (requests_of merchant t.requests))
-    × (related.merchant ≡ merchant) × (related.inquiry ≡ inquiry)
-
 -- a request of a merchant, where it is found
 abbrev pub row_if : List ℕ → Inquiry → List ℕ → Request → List Request
 row_if merchant inquiry references row =
     if bytes_eq row.key.merchant merchant && is_found inquiry references row then row ∷ [] else []
-
--- a row is there if it is found, or memory ran out
-abbrev pub Finds : FoundRows → Request → Bool → FoundRows → Type 0
-Finds old row true new =
-    (new.rows.items
-    ≡ old.rows.items
-    ++ row_if old.related.merchant old.related.inquiry old.related.references.items row)
-    × (new.related ≡ old.related)
-Finds old row false new = new.is_short ≡ true
 
 -- a posting's line is there if the request made it, or memory ran out
 abbrev pub PutsPosting : PostingLines → ℕ × Posting → Bool → PostingLines → Type 0

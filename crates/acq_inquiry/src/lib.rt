@@ -3,7 +3,7 @@
 //! reversal or a hold's completion does.
 //!
 //! [`write_inquiry`] finds them in two walks over the requests, one for the references and one for
-//! the rows, and writes a few lines of each: what it was, its reply, where it stands, and what it
+//! the places, and writes a few lines of each: what it was, its reply, where it stands, and what it
 //! posted. The text is defined over the tables in `specs/InquiryTexts.antt`. No card number is in
 //! it, but for its mask.
 //!
@@ -11,14 +11,12 @@
 #![tactic(auto)]
 
 mod asked_words;
-mod found_rows;
 mod inquiry;
 mod inquiry_text;
 pub mod laws;
 mod line_parts;
 mod looking;
 mod posting_lines;
-mod related;
 mod reply_words;
 mod request_lines;
 mod rows_at;

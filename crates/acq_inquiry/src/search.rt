@@ -6,14 +6,13 @@ ghost use Rattle.acq_book.specs.Calls.{Looks};
 ghost use Rattle.acq_book.specs.Promise.{CountsFault};
 ghost use Rattle.acq_core.specs.Tables.{Tables};
 ghost use Rattle.acq_inquiry.specs.Gathering.{goes_on};
-ghost use Rattle.acq_inquiry.specs.Inquiries.{found_at, is_asked, is_found};
+ghost use Rattle.acq_inquiry.specs.Inquiries.{found_at, is_asked, is_found, is_one_of};
 ghost use Rattle.acq_inquiry.specs.InquiryTexts.{inquiry_text};
 ghost use Rattle.acq_inquiry.specs.Searching.{Asks, IsSearched, SeesMore};
 
 use crate::inquiry::Inquiry;
 use crate::inquiry_text::text_of_found;
 use crate::looking::Looking;
-use crate::related::is_one_of;
 use crate::rows_at::rows_at;
 use crate::seeing::Seeing;
 use acq_book::{Book, BookFault};
@@ -258,5 +257,15 @@ pub(crate) fn goes_on(end: Option<u64>, place: u64) -> bool
     match end {
         Some(end) => place < end,
         None => true,
+    }
+}
+
+/// Whether a reference is there, and is one of these.
+fn is_one_of(references: &[Reference], reference: Option<Reference>) -> bool
+    ensures { result ≡ is_one_of references.now reference }
+{
+    match reference {
+        Some(reference) => references.contains(&reference),
+        None => false,
     }
 }

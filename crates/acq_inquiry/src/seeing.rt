@@ -2,8 +2,8 @@
 
 ghost use Rattle.std.specs.Prelude.{◌≡◌, ◌++◌, ◌+◌, OnOk};
 ghost use Rattle.acq_inquiry.specs.Gathering.{goes_on, references_if};
+ghost use Rattle.acq_inquiry.specs.Inquiries.{reference_if};
 
-use crate::related::push_reference;
 use crate::search::{Search, goes_on};
 use acq_book::Visit;
 use acq_core::{Reference, Request};
@@ -66,4 +66,18 @@ impl Visit<Request> for Seeing<'_> {
             }
         }
     }
+}
+
+/// Puts a reference behind others, where it is there.
+fn push_reference(
+    references: &mut Vec<Reference>,
+    reference: Option<Reference>,
+) -> Result<(), AllocError>
+    ensures { OnOk result (references.new.items
+        ≡ references.old.items ++ reference_if reference) }
+{
+    if let Some(reference) = reference {
+        references.push(reference)?;
+    }
+    Ok(())
 }

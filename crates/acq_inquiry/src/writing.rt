@@ -8,9 +8,8 @@ ghost use Rattle.acq_reports.specs.Writing.{Allows, Reports, Writes};
 ghost use Rattle.acq_reports.specs.declared.report_fault.ReportFault.TheVariants.{Store};
 ghost use Rattle.acq_inquiry.specs.InquiryTexts.{inquiry_text};
 
-use crate::found_rows::found_rows;
 use crate::inquiry::Inquiry;
-use crate::inquiry_text::text_of_found;
+use crate::search::Search;
 use acq_book::Book;
 use acq_core::MerchantId;
 use acq_link::Sink;
@@ -62,8 +61,8 @@ fn write_found<B: Book, K: Sink>(
     ensures looks { Looks B.Book book.old book.new (is_settled result) }
     ensures store { CountsStore result (B.failures book.old) (B.failures book.new) }
 {
-    let rows = found_rows(alloc, book, merchant, inquiry)?;
-    let text = text_of_found(alloc, book, rows.as_slice())?;
+    let search = Search::of(alloc, merchant, *inquiry);
+    let text = search.text(alloc, book)?;
     put_text(alloc, text.as_slice(), writer)
 }
 

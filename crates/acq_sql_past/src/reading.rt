@@ -11,7 +11,10 @@ use std::alloc::Global;
 
 /// The rows of the book in a database. A table ends before the first row that no host wrote, and a
 /// limit or a day that is none reads as the least.
-pub fn book_rows<S: Alter>(alloc: Global, conn: &mut Connection<S>) -> Result<BookRows, Error> {
+pub(crate) fn book_rows<S: Alter>(
+    alloc: Global,
+    conn: &mut Connection<S>,
+) -> Result<BookRows, Error> {
     let (limit, day) = limit_and_day_or_least(conn)?;
     let merchants = list(alloc, conn)?;
     let terminals = list(alloc, conn)?;

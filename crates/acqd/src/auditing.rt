@@ -32,6 +32,7 @@ pub(crate) fn audit_line<S: Alter + Drop>(
         },
         Err(AuditFault::Memory) => Err(Fault::Memory),
         Err(AuditFault::Store) => Err(Fault::Store),
+        Err(AuditFault::NotABook) => Err(Fault::NotABook),
     }
 }
 
