@@ -59,6 +59,7 @@ COMMANDS = [
     ["report", *DAY, "--csv"],
     ["statement", *DAY],
     ["find", "--merchant", "MERCHANT0000001", "--reference", "1"],
+    ["audit"],
 ]
 
 # Those that only read.

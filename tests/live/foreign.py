@@ -57,6 +57,7 @@ COMMANDS = [
     ["holds", "--merchant", "LAKESIDE-BAKERY", "--at", "1714555800"],
     ["pending"],
     ["status"],
+    ["audit"],
 ]
 
 

@@ -128,6 +128,8 @@ def try_all(program, room):
     wanted("a replay before", acqd(program, words, "cutover,1714600800,,,,\n"), refused)
     wanted("the migration", acqd(program, ["migrate", "--db", book]), (0, "", ""))
     wanted("the rows of version 2", rows_of(book), [widened(it) for it in rows])
+    sound = (0, "sound\n", "")
+    wanted("an audit", acqd(program, ["audit", "--db", book]), sound)
     again = (1, "", "acqd: 41 OtherVersion 2\n")
     wanted("the migration again", acqd(program, ["migrate", "--db", book]), again)
     kiosks = kiosks_lines()
@@ -145,6 +147,7 @@ def try_all(program, room):
     wanted("the clearing file, without the kiosk's", own, lines)
     later = later_lines()
     wanted("ranges", taken(program, book, [it[0] for it in later]), [it[1] for it in later])
+    wanted("an audit at the end", acqd(program, ["audit", "--db", book]), sound)
 
 
 def a_book_of_version_1(program):
