@@ -567,7 +567,7 @@ memory ran out or the file failed. A fault is one line on standard error:
   acqd: 41 OtherVersion VERSION    the file holds a book of this other version
   acqd: 53 Read                    FILE can't be read
   acqd: 54 Write BYTES             a write failed after so many bytes of the text
-and what `acqd replay` tells of a line that is no event
+  acqd: 62 BadLine RECORD          a line of FILE is no event; records are counted from 1
 
 Examples:
   acqd audit --db book.db
