@@ -6,3 +6,6 @@ mod Tables
 mod ComparedTables
 mod WholeRows
 mod SameTables
+mod TookEvents
+mod MadeBooks
+mod OrderedStores

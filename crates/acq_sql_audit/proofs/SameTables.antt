@@ -1,5 +1,5 @@
 -- A database with the rows of one that holds tables holds them, too.
-use Rattle.std.proofs.Common.{◌∙◌, [], ◌∷◌, sym, subst}
+use Rattle.std.proofs.Common.{◌∙◌, [], ◌∷◌, Option, Some, None, sym, subst}
 use Rattle.sqlite_trees.specs.Tree.{IsTable}
 use Rattle.sqlite_catalog.specs.Listing.{IsSound}
 use Rattle.sqlite.specs.Effect.{Database, IsDatabase}
@@ -9,7 +9,10 @@ use Rattle.acq_sql_rows.specs.Relation.{Holds}
 use Rattle.acq_sql_rows.specs.Rows.{book_row}
 use Rattle.acq_sql_rows.specs.Schema.{IsBookSchema}
 use Rattle.acq_sql_writes.proofs.RangeWrites.{ranges_shaped}
+use Rattle.acq_sql_audit.specs.Audited.{Audits}
 use Rattle.acq_sql_audit.specs.Compared.{AreInOrder, HaveSameRows, IsComparable}
+use Rattle.acq_sql_audit.specs.Differences.{IsFirstDifference}
+use Rattle.acq_sql_audit.specs.declared.difference.Difference.{Difference}
 use Rattle.acq_sql_audit.specs.declared.table.Table.TheVariants.{Book, Merchants, Terminals}
 use Rattle.acq_sql_audit.specs.declared.table.Table.TheVariants.{Ranges, Requests, Postings}
 use Rattle.acq_sql_audit.specs.declared.table.Table.TheVariants.{Reconciliations, Running}
@@ -61,3 +64,10 @@ module _ (db : Database) (t : Tables) (holds : Holds db t) where
         tallied = holds.tallied;
         short = holds.short;
       }
+
+-- what a comparison with a database that holds tables says of a file
+pub audits : (file made : Database) (t : Tables) (d : Option Difference)
+    → IsBookSchema file.schema → IsDatabase file → Holds made t
+    → IsFirstDifference file.trees made.trees d → Audits file t d
+audits file made t None has sound holds same = holds_too made t holds file has sound same
+audits file made t (Some d) has sound holds first = (made, holds, first)

@@ -6,15 +6,22 @@
 //! `specs/Compared.antt`.
 #![tactic(auto)]
 
+mod audit_fault;
+mod auditing;
 mod comparing;
 mod difference;
 mod how;
 mod laws;
+mod releasing;
 mod rows;
 mod table;
+mod taking;
 
+pub use audit_fault::AuditFault;
+pub use auditing::audit;
 pub use comparing::first_difference;
 pub use difference::Difference;
 pub use how::How;
 pub use laws::same_rows_hold_the_same;
+pub use releasing::audit_file;
 pub use table::Table;
