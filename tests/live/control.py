@@ -16,7 +16,8 @@ played, each line cut anywhere, beside a connection that ends inside a line that
 
 A clearing file is made in slices: while it is asked for, a terminal's echoes and sales of the next
 day are answered one by one, another control connection gets its answers, and one that asked and
-went away leaves the host well. The file is that of `clearing` over a copy of the book."""
+went away leaves the host well. The file is that of `clearing` over a copy of the book. So it is of
+what a `find` and a `statement` are answered with, for which rows are gone over in slices."""
 import os
 import random
 import re
@@ -265,6 +266,8 @@ def play_rows(program):
             wanted("words of sums in the log", sums, ["sums"] * 4)
             found = [word for (line, _), word in zip(rows, words) if line.startswith("find")]
             wanted("words of what is found in the log", found, ["find"] * 13)
+            stated = [word for (line, _), word in zip(rows, words) if line.startswith("statement")]
+            wanted("words of statements in the log", stated, ["statement"] * 12)
 
 
 def is_of(want, text):
@@ -354,14 +357,14 @@ def a_day(program):
             wanted(word, book.output(word, "--day", DAY).encode(), text)
 
 
-def end_day(book):
+def end_day(book, shops=SHOPS):
     """A day of sales of each shop in its turn, with their answers, that is over: its clearing file,
     of a copy of the book."""
     lines = []
     for it in range(SALES):
-        number, k = divmod(it, len(SHOPS))
-        lines.append(f"frame,{MOMENT},{sale(SHOPS[k], number + 1)[2:].hex()},,,\n")
-        lines.append(f"answer,{MOMENT},{merchant(SHOPS[k])},{number + 1},approved,A1B2C3\n")
+        number, k = divmod(it, len(shops))
+        lines.append(f"frame,{MOMENT},{sale(shops[k], number + 1)[2:].hex()},,,\n")
+        lines.append(f"answer,{MOMENT},{merchant(shops[k])},{number + 1},approved,A1B2C3\n")
     lines.append(f"cutover,{MOMENT},,,,\n")
     book.output("replay", "--group", "1000", given="".join(lines))
     copy = book.copy(f"{book.folder}/copy.db")
@@ -374,7 +377,7 @@ class Seller:
     """A terminal of each shop in turn: echoes, and sales of the day that goes on."""
 
     def __init__(self, host):
-        self.end, self.trace = host.terminal(), 1000
+        self.end, self.trace = host.terminal(), SALES
 
     def turn(self):
         """An echo and a sale are answered, each before the next is sent."""
@@ -464,6 +467,32 @@ def found_in_slices(program):
             wanted("what is found once others went away", one.ask(asked), text)
 
 
+def stated_in_slices(program):
+    """Terminals and other control connections go on while postings and requests are gone over for a
+    `statement`."""
+    with Book(program, SHOPS) as book:
+        # All sales of the day are of one shop.
+        end_day(book, SHOPS[:1])
+        words = ["--merchant", merchant(SHOPS[0]), "--day", DAY]
+        texts = {"": book.output("statement", *words).encode(),
+                 ",csv": book.output("statement", *words, "--csv").encode()}
+        with Host(book, "--together", "8", control=True) as host:
+            one, other, seller = host.control(), host.control(), Seller(host)
+            # Each has its place, in this order.
+            for it in (one, other):
+                wanted("an answer", it.ask("enrol,NEW"), "acqd: 62 BadLine 1")
+            for form, text in texts.items():
+                asked, seen = f"statement,{merchant(SHOPS[0])},{DAY}{form}", []
+                while not any(count >= IN_SLICES and early for count, early in seen):
+                    if len(seen) == TURNS:
+                        raise Wrong(f"answers before a statement: {seen}")
+                    answered, early, answer = ask_beside(one, other, seller, "status", text, asked)
+                    wanted("whether status is answered well", b"merchants " in answer, True)
+                    seen.append((answered, early is not None))
+                go_away(host, seller, asked, len(text) // 2)
+                wanted("a statement once others went away", one.ask(asked), text)
+
+
 def cut_off_in_a_file(book):
     """A connection that reads nothing is cut off in the midst of a clearing file: 54 counts all
     bytes that went out, and not those of the last slice alone."""
@@ -499,5 +528,5 @@ def go_away(host, seller, asked=f"clearing,{DAY}", enough=20000):
 if __name__ == "__main__":
     sys.exit(main([
         tell_answers, a_socket_that_is_taken, log_to_standard_error, a_day, a_file_in_slices,
-        found_in_slices, play_rows,
+        found_in_slices, stated_in_slices, play_rows,
     ]))

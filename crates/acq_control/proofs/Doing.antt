@@ -31,6 +31,7 @@ module _ {S : Type 0} (book : Ghosts S) (a c : S) where
       record { was_honest = makes.was_honest; stays_open = makes.stays_open }
   does_kept (Some (question.Report report)) done looks = looked done looks
   does_kept (Some (question.Holds merchant moment)) done looks = looked done looks
+  does_kept (Some (question.Statement asked)) done looks = looked done looks
   does_kept (Some (question.Find sought)) done looks = looked done looks
   does_kept (Some (question.Pending day moment)) done looks = looked done looks
   does_kept (Some (question.Explain e)) done looks = looked done looks
@@ -60,6 +61,7 @@ module _ {S : Type 0} (book : Ghosts S) (a c : S) where
         makes.made refl opened (makes.stays_open refl honest opened)
     done_tables (Some (question.Report report)) looks = looked_tables looks
     done_tables (Some (question.Holds merchant moment)) looks = looked_tables looks
+    done_tables (Some (question.Statement asked)) looks = looked_tables looks
     done_tables (Some (question.Find sought)) looks = looked_tables looks
     done_tables (Some (question.Pending day moment)) looks = looked_tables looks
     done_tables (Some (question.Explain e)) looks = looked_tables looks
@@ -95,6 +97,7 @@ module _ {S : Type 0} (book : Ghosts S) (a c : S) where
             taken_stop book a c e honest opened makes
         done_stop (Some (question.Report report)) looks = looked_stop true looks
         done_stop (Some (question.Holds merchant moment)) looks = looked_stop true looks
+        done_stop (Some (question.Statement asked)) looks = looked_stop true looks
         done_stop (Some (question.Find sought)) looks = looked_stop true looks
         done_stop (Some (question.Pending day moment)) looks = looked_stop true looks
         done_stop (Some (question.Explain e)) looks = looked_stop true looks
@@ -153,6 +156,7 @@ module _ {S : Type 0} (book : Ghosts S) (a c : S) where
         some_done (Some (question.Event e)) some = made_some e some.0 some.1
         some_done (Some (question.Report report)) some = looked_some some.0 some.1
         some_done (Some (question.Holds merchant moment)) some = looked_some some.0 some.1
+        some_done (Some (question.Statement asked)) some = looked_some some.0 some.1
         some_done (Some (question.Find sought)) some = looked_some some.0 some.1
         some_done (Some (question.Pending day moment)) some = looked_some some.0 some.1
         some_done (Some (question.Explain e)) some = looked_some some.0 some.1

@@ -17,8 +17,10 @@ use Rattle.acq_control.specs.Log.{Act, FollowsActs, behind_acts, events_in}
 use Rattle.acq_control.proofs.Following.{behind-append}
 use Rattle.acq_control.specs.Unmade.{IsCounted, MayBeUnmade, rest_of, unmade_at}
 use Rattle.acq_inquiry.proofs.Later.{searched_later}
+use Rattle.acq_statement.proofs.Gathered.{gathered_later}
 use Rattle.acq_control.specs.declared.unmade_answer.UnmadeAnswer.{UnmadeAnswer}
 use Rattle.acq_control.specs.declared.unmade_answer.UnmadeAnswer.TheVariants.{Clearing, Finding}
+use Rattle.acq_control.specs.declared.unmade_answer.UnmadeAnswer.TheVariants.{Stating}
 use Rattle.acq_control.specs.declared.clearing_stage.ClearingStage.{ClearingStage}
 use Rattle.acq_control.specs.declared.clearing_stage.ClearingStage.TheVariants.{Counting, Saying}
 
@@ -46,6 +48,7 @@ pub unmade_later : (t : Tables) (events : List Event) (o : Option UnmadeAnswer) 
     MayBeUnmade t o → MayBeUnmade (tables_after t events) o
 unmade_later t events None may = tt
 unmade_later t events (Some (Finding search)) may = searched_later t events search may
+unmade_later t events (Some (Stating gathering)) may = gathered_later t events gathering may
 unmade_later t events (Some (Clearing c)) may = record {
   given = given_again t events c.day may.given;
   counted = counted_same t (tables_after t events) c.day
@@ -56,6 +59,7 @@ pub unmade_same : (t : Tables) (events : List Event) (o : Option UnmadeAnswer) �
     MayBeUnmade t o → unmade_at (tables_after t events) o ≡ unmade_at t o
 unmade_same t events None may = refl
 unmade_same t events (Some (Finding search)) may = refl
+unmade_same t events (Some (Stating gathering)) may = refl
 unmade_same t events (Some (Clearing c)) may =
     rest_same t (tables_after t events) c.day (same_postings t events c.day may.given) c.stage
 

@@ -21,6 +21,7 @@ use Rattle.acq_explain.specs.Explained.{explained_in}
 use Rattle.acq_faults.specs.DayReport.{report_text}
 use Rattle.acq_faults.specs.Faults.{fault_line, of_report}
 use Rattle.acq_faults.specs.declared.fault.Fault.TheVariants.{BadLine, OtherDay}
+use Rattle.acq_control.specs.Stated.{text_stated}
 use Rattle.acq_control.specs.declared.question.Question.{Question}
 use Rattle.acq_control.specs.declared.question.Question.TheVariants as question
 
@@ -52,6 +53,8 @@ answer_of t number (Some (question.Report asked)) =
 answer_of t number (Some (question.ReportCsv day)) =
     text_unless_refused (day_refusal t day) (report_csv t day)
 answer_of t number (Some (question.Sums day)) = text_answer (day_sums t day)
+answer_of t number (Some (question.Statement asked)) =
+    text_unless_refused (merchant_refusal t asked.merchant) (text_stated t asked)
 answer_of t number (Some (question.Find sought)) =
     text_unless_refused (merchant_refusal t sought.merchant)
     (inquiry_text t sought.merchant sought.inquiry)

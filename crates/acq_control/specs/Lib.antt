@@ -1,6 +1,8 @@
 pub mod Lines
 pub mod Held
 pub mod FindLines
+pub mod StatementLines
+pub mod Stated
 pub mod Questions
 pub mod Answers
 pub mod Unmade

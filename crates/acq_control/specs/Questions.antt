@@ -20,6 +20,7 @@ use Rattle.acq_status.specs.declared.status_form.StatusForm.{StatusForm}
 use Rattle.acq_status.specs.declared.status_form.StatusForm.TheVariants as form
 use Rattle.acq_control.specs.FindLines.{AsksFind, comma_in}
 use Rattle.acq_control.specs.Lines.{longest_line}
+use Rattle.acq_control.specs.StatementLines.{AsksStatement}
 use Rattle.acq_control.specs.declared.question.Question.{Question}
 use Rattle.acq_control.specs.declared.question.Question.TheVariants as question
 use Rattle.acq_control.specs.declared.question_word.QuestionWord.{QuestionWord}
@@ -37,6 +38,7 @@ word_of line =
     else if begins_with line (codes "clearing,") then word.Clearing
     else if begins_with line (codes "report,") then word.Report
     else if begins_with line (codes "sums,") then word.Sums
+    else if begins_with line (codes "statement,") then word.Statement
     else if begins_with line (codes "find,") then word.Find
     else if begins_with line (codes "holds,") then word.Holds
     else if begins_with line (codes "pending,") then word.Pending
@@ -50,6 +52,7 @@ word_of line =
 
 -- how many bytes it has with the comma behind it, if one is
 abbrev pub word_length : QuestionWord → ℕ
+word_length word.Statement = 10
 word_length word.Clearing = 9
 word_length word.Pending = 8
 word_length word.Explain = 8
@@ -193,6 +196,13 @@ holds_about now text (Some comma) =
 abbrev pub holds_of : ℕ → List ℕ → Option Question
 holds_of now text = holds_about now text (position (λ byte. byte == 44) text)
 
+-- a statement of a merchant's day
+abbrev pub AsksStated : List ℕ → Option Question → Type 0
+AsksStated text (Some (question.Statement asked)) =
+    AsksStatement text (comma_in text) (Some asked)
+AsksStated text None = AsksStatement text (comma_in text) None
+AsksStated text (Some other) = ⊥
+
 -- what became of requests
 abbrev pub AsksFound : List ℕ → Option Question → Type 0
 AsksFound text (Some (question.Find sought)) = AsksFind text (comma_in text) (Some sought)
@@ -214,6 +224,7 @@ AsksBy word.Clearing now line asked = AsksReport report.Clearing (drop 9 line) a
 AsksBy word.Report now line asked =
     AsksSettlement (drop 7 line) (position (λ byte. byte == 44) (drop 7 line)) asked
 AsksBy word.Sums now line asked = AsksSums (drop 5 line) asked
+AsksBy word.Statement now line asked = AsksStated (drop 10 line) asked
 AsksBy word.Find now line asked = AsksFound (drop 5 line) asked
 AsksBy word.Holds now line asked = asked ≡ holds_of now (drop 6 line)
 AsksBy word.Pending now line asked = AsksPending now (drop 8 line) asked

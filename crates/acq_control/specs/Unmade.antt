@@ -13,10 +13,12 @@ use Rattle.acq_control.specs.declared.clearing_answer.ClearingAnswer.{ClearingAn
 use Rattle.acq_control.specs.declared.clearing_stage.ClearingStage.{ClearingStage}
 use Rattle.acq_control.specs.declared.clearing_stage.ClearingStage.TheVariants.{Counting, Saying}
 use Rattle.acq_inquiry.specs.Searching.{IsSearched}
+use Rattle.acq_statement.specs.Gathered.{IsGathered}
 use Rattle.acq_control.specs.declared.question.Question.{Question}
 use Rattle.acq_control.specs.declared.said.Said.{Said}
 use Rattle.acq_control.specs.declared.unmade_answer.UnmadeAnswer.{UnmadeAnswer}
 use Rattle.acq_control.specs.declared.unmade_answer.UnmadeAnswer.TheVariants.{Clearing, Finding}
+use Rattle.acq_control.specs.declared.unmade_answer.UnmadeAnswer.TheVariants.{Stating}
 
 -- the file of a day, of which nothing is made yet
 abbrev pub at_first : ℕ → ClearingAnswer
@@ -31,12 +33,14 @@ abbrev pub unmade_at : Tables → Option UnmadeAnswer → List ℕ
 unmade_at t None = []
 unmade_at t (Some (Clearing c)) = rest_of t c.day c.stage
 unmade_at t (Some (Finding search)) = []
+unmade_at t (Some (Stating gathering)) = []
 
 -- whatever was begun to be said is made, so that a line may be taken
 abbrev pub is_said : Option UnmadeAnswer → Bool
 is_said None = true
 is_said (Some (Clearing c)) = false
 is_said (Some (Finding search)) = true
+is_said (Some (Stating gathering)) = true
 
 -- so many bytes are those in front of the bookmark
 abbrev pub IsCounted : Tables → ℕ → ClearingStage → Type 0
@@ -53,6 +57,7 @@ abbrev pub MayBeUnmade : Tables → Option UnmadeAnswer → Type 0
 MayBeUnmade t None = Unit {0}
 MayBeUnmade t (Some (Clearing c)) = IsUnmade t c
 MayBeUnmade t (Some (Finding search)) = IsSearched t search
+MayBeUnmade t (Some (Stating gathering)) = IsGathered t gathering
 
 -- what is said next, and behind it what is then still to be made, is what was still to be made
 pub record GoesOn (t : Tables) (rest : List ℕ) (said : Said) : Type 0 where

@@ -23,16 +23,19 @@ ghost use Rattle.acq_control.specs.Answers.{answer_of, answer_to_end, heading_of
 ghost use Rattle.acq_control.specs.Answers.{text_unless_refused};
 ghost use Rattle.acq_control.specs.Doing.{Does, DoesSome, IsRefusal, IsSettled, TellsAs};
 ghost use Rattle.acq_control.specs.Doing.{TellsStore};
+ghost use Rattle.acq_control.specs.Stated.{text_stated};
 ghost use Rattle.acq_control.specs.Unmade.{MayBeUnmade, Puts, Says};
 ghost use Rattle.acq_control.specs.declared.question.Question.TheVariants as question;
 
 use crate::clearing_answer::ClearingAnswer;
 use crate::found::Found;
 use crate::list_text::ListText;
+use crate::merchant_statement::MerchantStatement;
 use crate::pending_text::PendingText;
 use crate::question::Question;
 use crate::said::Said;
 use crate::sought::Sought;
+use crate::stated::Stated;
 use crate::status_text::StatusText;
 use crate::sums_text::SumsText;
 use crate::unmade_answer::UnmadeAnswer;
@@ -124,6 +127,7 @@ fn put_question<B: Book + Drop>(
         Question::Sums(day) => put_asked(alloc, host, &SumsText { day: *day }, answer)?,
         Question::Event(event) => put_event(alloc, host, event, answer)?,
         Question::Find(sought) => put_found(host, *sought, prepared, answer)?,
+        Question::Statement(asked) => put_statement(host, *asked, prepared, answer)?,
         Question::Holds(merchant, moment) => put_holds(alloc, host, *merchant, *moment, answer)?,
         Question::Pending(day, moment) => put_pending(alloc, host, *day, *moment, answer)?,
         Question::Explain(event) => put_asked(alloc, host, &Explained { event }, answer)?,
@@ -294,6 +298,32 @@ fn put_found<B: Book + Drop>(
         unmade: prepared,
     };
     match host.look(&asked)? {
+        Some(text) => put_whole(text.as_slice(), answer),
+        None => put_refusal(ReportFault::NoSuchMerchant, answer),
+    }
+}
+
+/// Puts a statement of a merchant's day, or why it is refused.
+fn put_statement<B: Book + Drop>(
+    host: &mut Host<B>,
+    asked: MerchantStatement,
+    prepared: &Option<UnmadeAnswer>,
+    answer: &mut MemorySink,
+) -> Result<(), BookFault>
+    ensures answers { B.is_honest host.new → B.is_open host.old
+        → MayBeUnmade (B.tables host.old) prepared.now → OnOk result (sent_of answer.new
+        ≡ sent_of answer.old ++ text_unless_refused
+        (merchant_refusal (B.tables host.old) asked.merchant)
+        (text_stated (B.tables host.old) asked)) }
+    ensures does { OnOk result (Looks B.Book host.old host.new true) }
+    ensures refused { OnErr result ((done : Bool) × Looks B.Book host.old host.new done) }
+    ensures store { TellsStore B.Book host.old host.new result }
+{
+    let look = Stated {
+        asked,
+        unmade: prepared,
+    };
+    match host.look(&look)? {
         Some(text) => put_whole(text.as_slice(), answer),
         None => put_refusal(ReportFault::NoSuchMerchant, answer),
     }

@@ -12,7 +12,7 @@ ghost use Rattle.acq_control.specs.declared.control_turn.ControlTurn.TheVariants
 use crate::answering::answer_to;
 use crate::control_input::ControlInput;
 use crate::control_turn::ControlTurn;
-use crate::find_line::search_in_front;
+use crate::preparing::prepared_in_front;
 use crate::question::Question;
 use crate::reading::question_in;
 use crate::unmade_answer::UnmadeAnswer;
@@ -216,7 +216,7 @@ impl ControlConversation {
         ensures given_later { (m : ℕ) → C.may_give clock.new m → C.may_give clock.old m }
         ensures store { TellsStore B.Book host.old host.new result }
     {
-        if self.begin_search(alloc) {
+        if self.prepare(alloc) {
             return Ok(ControlTurn::Prepares);
         }
         let Some(line) = self.input.take_line(alloc)? else {
@@ -236,9 +236,9 @@ impl ControlConversation {
         Ok(ControlTurn::Took(wish))
     }
 
-    /// Begins the search that the line in front asks for, if it asks for one and none is begun;
+    /// Begins to go over rows for the line in front, if it asks for such and none were begun with;
     /// returns whether it did.
-    fn begin_search(&mut self, alloc: Global) -> bool
+    fn prepare(&mut self, alloc: Global) -> bool
         requires made { is_said (unmade_of self.old) ≡ true }
         ensures begins { result ≡ true → Begins (end_of self.old) (end_of self.new) }
         ensures same { result ≡ false → end_of self.new ≡ end_of self.old }
@@ -246,9 +246,9 @@ impl ControlConversation {
         if self.unmade.is_some() {
             return false;
         }
-        match search_in_front(alloc, self.input.front()) {
-            Some(search) => {
-                self.unmade = Some(UnmadeAnswer::Finding(search));
+        match prepared_in_front(alloc, self.input.front()) {
+            Some(unmade) => {
+                self.unmade = Some(unmade);
                 true
             }
             None => false,

@@ -1,23 +1,18 @@
 //! What a line asks that has requests found.
 
-ghost use Rattle.std.specs.Prelude.{◌≡◌, ◌==◌, IfSome};
+ghost use Rattle.std.specs.Prelude.{◌≡◌, ◌==◌};
 ghost use Rattle.std.specs.List.{position};
-ghost use Rattle.acq_core.specs.Tables.{Tables};
-ghost use Rattle.acq_inquiry.specs.Searching.{IsSearched};
 ghost use Rattle.acq_control.specs.FindLines.{AsksByCard, AsksByDay, AsksFind, SpellsInquiry};
 ghost use Rattle.acq_control.specs.FindLines.{by_reference, by_trace, ends_of_text};
 ghost use Rattle.acq_control.specs.FindLines.{trace_of_text};
 
-use crate::line_buffer::line_end;
-use crate::question_word::QuestionWord;
-use crate::reading::{comma_in, without_return};
+use crate::reading::comma_in;
 use crate::sought::Sought;
-use acq_inquiry::{Inquiry, Search};
+use acq_inquiry::Inquiry;
 use acq_message::Trace;
 use acq_out::{merchant_of, reference_of, terminal_of};
 use day_totals::Day;
 use iso_codec::all_digits;
-use std::alloc::Global;
 use std::str;
 
 /// What is to be found of the merchant before the first comma, as is said behind it.
@@ -28,21 +23,6 @@ pub(crate) fn sought_of(text: &[u8]) -> Option<Sought>
     let merchant = merchant_of(&text[..comma])?;
     let inquiry = inquiry_of(&text[comma + 1..])?;
     Some(Sought { merchant, inquiry })
-}
-
-/// A search that the line in front of these bytes asks for, of which nothing is gone over yet.
-pub(crate) fn search_in_front(alloc: Global, front: &[u8]) -> Option<Search>
-    ensures { IfSome result (λ search. (t : Tables) → IsSearched t search) }
-{
-    let line = without_return(&front[..line_end(front)?]);
-    let word = QuestionWord::of(line);
-    match word {
-        QuestionWord::Find => {
-            let sought = sought_of(&line[word.length()..])?;
-            Some(Search::of(alloc, sought.merchant, sought.inquiry))
-        }
-        _ => None,
-    }
 }
 
 /// An inquiry, by how its text begins.

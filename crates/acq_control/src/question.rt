@@ -1,5 +1,6 @@
 //! What a line of a control connection asks.
 
+use crate::merchant_statement::MerchantStatement;
 use crate::sought::Sought;
 use acq_core::{Event, MerchantId, Moment};
 use acq_directory::Listing;
@@ -20,6 +21,8 @@ pub enum Question {
     Sums(Day),
     /// What became of a merchant's requests.
     Find(Sought),
+    /// The statement of a merchant's day.
+    Statement(MerchantStatement),
     /// The open holds of a merchant at a moment.
     Holds(MerchantId, Moment),
     /// Answers without a verdict to the requests of a day that wait for their issuer, given at a

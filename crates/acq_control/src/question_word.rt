@@ -10,6 +10,7 @@ pub(crate) enum QuestionWord {
     Clearing,
     Report,
     Sums,
+    Statement,
     Find,
     Holds,
     Pending,
@@ -36,6 +37,8 @@ impl QuestionWord {
             QuestionWord::Report
         } else if line.starts_with(b"sums,") {
             QuestionWord::Sums
+        } else if line.starts_with(b"statement,") {
+            QuestionWord::Statement
         } else if line.starts_with(b"find,") {
             QuestionWord::Find
         } else if line.starts_with(b"holds,") {
@@ -64,6 +67,7 @@ impl QuestionWord {
         ensures { result ≡ word_length self }
     {
         match self {
+            QuestionWord::Statement => 10,
             QuestionWord::Clearing => 9,
             QuestionWord::Pending | QuestionWord::Explain => 8,
             QuestionWord::Report => 7,

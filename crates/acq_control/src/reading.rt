@@ -5,7 +5,7 @@ ghost use Rattle.std.specs.List.{position};
 ghost use Rattle.acq_control.specs.Questions.{Asks, AsksEnd, AsksEvent, AsksExplained};
 ghost use Rattle.acq_control.specs.Questions.{AsksPending, AsksReport, AsksReportCsv};
 ghost use Rattle.acq_control.specs.Questions.{AsksSettlement, AsksSums, frame_line};
-ghost use Rattle.acq_control.specs.Questions.{AsksFound, AsksShort, Shows, at_moment};
+ghost use Rattle.acq_control.specs.Questions.{AsksFound, AsksShort, AsksStated, Shows, at_moment};
 ghost use Rattle.acq_control.specs.Questions.{holds_of, list_of, moment_at};
 ghost use Rattle.acq_control.specs.Questions.{says_now, without_return};
 ghost use Rattle.acq_control.specs.Held.{IsTaken};
@@ -15,6 +15,7 @@ ghost use Rattle.acq_status.specs.declared.serving.Serving.{Serving};
 use crate::find_line::sought_of;
 use crate::question::Question;
 use crate::question_word::QuestionWord;
+use crate::statement_line::statement_of;
 use crate::taken_line::TakenLine;
 use acq_core::{Event, Moment};
 use acq_directory::Listing;
@@ -30,8 +31,8 @@ use std::str;
 /// The word that stands for the moment.
 const NOW: &[u8] = b"now";
 
-/// The form of a settlement report that is told beside its day.
-const CSV: &[u8] = b"csv";
+/// The form of a report or a statement that is told beside its day.
+pub(crate) const CSV: &[u8] = b"csv";
 
 /// What a line asks that is taken at this moment, while so much is served, or `None` where it is
 /// out of its form or too long (own profile; `specs/Questions.antt`).
@@ -69,6 +70,7 @@ fn question_of(
         QuestionWord::Clearing => Ok(report_on(ReportKind::Clearing, rest)),
         QuestionWord::Report => Ok(settlement_of(rest)),
         QuestionWord::Sums => Ok(sums_on(rest)),
+        QuestionWord::Statement => Ok(stated_of(rest)),
         QuestionWord::Find => Ok(find_of(rest)),
         QuestionWord::Holds => Ok(holds_of(rest, now)),
         QuestionWord::Pending => Ok(pending_on(rest, now)),
@@ -169,6 +171,14 @@ fn holds_of(text: &[u8], now: Moment) -> Option<Question>
     let merchant = merchant_of(&text[..comma])?;
     let moment = moment_at(&text[comma + 1..], now)?;
     Some(Question::Holds(merchant, moment))
+}
+
+/// A statement, by the text behind the word.
+fn stated_of(text: &[u8]) -> Option<Question>
+    ensures asks { AsksStated text.now result }
+    ensures shows { (serving : Serving) → Shows serving result }
+{
+    Some(Question::Statement(statement_of(text)?))
 }
 
 /// What is to be found, by the text behind the word.

@@ -6,12 +6,14 @@ ghost use Rattle.acq_book.specs.Promise.{CountsFault};
 ghost use Rattle.acq_control.specs.Unmade.{GoesOn, MayBeUnmade, is_said, unmade_at};
 
 use crate::clearing_answer::ClearingAnswer;
+use crate::gathering_look::GatheringLook;
 use crate::said::Said;
 use crate::search_look::SearchLook;
 use acq_book::{Book, BookFault};
 use acq_host::Host;
 use acq_inquiry::Search;
 use acq_link::MemorySink;
+use acq_statement::Gathering;
 use std::alloc::Global;
 
 /// What of an answer is still to be made, slice by slice.
@@ -22,6 +24,8 @@ pub enum UnmadeAnswer {
     /// What became of requests: rows are gone over before the line that asks it is taken, so that
     /// the answer is of one moment.
     Finding(Search),
+    /// A statement of a merchant's day, alike.
+    Stating(Gathering),
 }
 
 impl UnmadeAnswer {
@@ -32,6 +36,7 @@ impl UnmadeAnswer {
         match self {
             UnmadeAnswer::Clearing(_) => true,
             UnmadeAnswer::Finding(search) => !search.is_done(),
+            UnmadeAnswer::Stating(gathering) => !gathering.is_done(),
         }
     }
 
@@ -54,6 +59,13 @@ impl UnmadeAnswer {
                 Ok(Said {
                     text: MemorySink::new(alloc),
                     unmade: Some(UnmadeAnswer::Finding(next)),
+                })
+            }
+            UnmadeAnswer::Stating(gathering) => {
+                let next = host.look(&GatheringLook { gathering })?;
+                Ok(Said {
+                    text: MemorySink::new(alloc),
+                    unmade: Some(UnmadeAnswer::Stating(next)),
                 })
             }
         }

@@ -1,7 +1,7 @@
 //! The words that lines of control connections begin with.
 
 /// These words: those of event lines, of texts, and the others.
-const WORDS: [&str; 20] = [
+const WORDS: [&str; 21] = [
     "frame",
     "answer",
     "cutover",
@@ -12,6 +12,7 @@ const WORDS: [&str; 20] = [
     "clearing",
     "report",
     "sums",
+    "statement",
     "find",
     "holds",
     "pending",

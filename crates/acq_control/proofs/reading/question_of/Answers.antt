@@ -37,6 +37,16 @@ returns-in-Sums-clause-asks c =
     rw is (rw (n, behind 5 line) at c.sums_on.ensures) in
     rw whole at asks
 
+pub returns-in-Statement-clause-asks : goal.returns-in-Statement-clause-asks
+returns-in-Statement-clause-asks c =
+    let line = c.without_return-line.result.now in
+    let whole : line ≡ without_return c.args.line.now = c.without_return-line.ensures in
+    let n : c.length.result ≡ 10 = c.length.ensures ∙ ap word_length c.in-Statement.is in
+    let is : word_of line ≡ word.Statement = sym c.of-word.ensures.word ∙ c.in-Statement.is in
+    let asks : AsksBy (word_of line) c.args.now line c.stated_of.result =
+    rw is (rw (n, behind 10 line) at c.stated_of.ensures.asks) in
+    rw whole at asks
+
 pub returns-in-Find-clause-asks : goal.returns-in-Find-clause-asks
 returns-in-Find-clause-asks c =
     let line = c.without_return-line.result.now in
@@ -79,6 +89,9 @@ returns-in-Pending-clause-asks c =
 
 pub returns-in-Report-clause-shows : goal.returns-in-Report-clause-shows
 returns-in-Report-clause-shows c = c.settlement_of.ensures.shows c.args.serving
+
+pub returns-in-Statement-clause-shows : goal.returns-in-Statement-clause-shows
+returns-in-Statement-clause-shows c = c.stated_of.ensures.shows c.args.serving
 
 pub returns-in-Find-clause-shows : goal.returns-in-Find-clause-shows
 returns-in-Find-clause-shows c = c.find_of.ensures.shows c.args.serving

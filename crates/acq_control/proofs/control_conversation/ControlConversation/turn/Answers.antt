@@ -32,7 +32,7 @@ returns-clause-steps g c = λ h o.
     let some = rw c.in-Some.is at c.in_ok-line.ensures.some in
     let takes = taken_asks _ _ c.in-Some.line c.now.result c.in_ok-asked.asked some
     c.in_ok-asked.ensures.asks in
-    let same = c.begin_search.ensures.same c.if-begin_search.false in
+    let same = c.prepare.ensures.same c.if-prepare.false in
     rw (← same)
     (line_taken (g.C.Clock.may_give c.args.clock.now) c.args.serving g.B.Book c.args.host.now
     c.answer_to.new.host h o g.met.B.Book.settled g.met.B.Book.stored _ _
