@@ -14,8 +14,8 @@ use crate::table::TABLES;
 use crate::{Difference, Table};
 use sqlite::{Alter, Connection, Error, ErrorCode};
 
-/// The first row in which a file differs from a book that was made, of the first table that differs;
-/// or `None` where no table does. Both are only looked at.
+/// The first row in which a file differs from a book that was made, of the first table that
+/// differs; or `None` where no table does. Both are only looked at.
 pub fn first_difference<S: Alter, M: Alter>(
     file: &mut Connection<S>,
     made: &mut Connection<M>,

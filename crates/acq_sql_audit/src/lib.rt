@@ -1,8 +1,8 @@
 //! Whether a book is what a host wrote.
 //!
-//! A file of a book is compared, row by row, with a book in memory that takes the events anew. Where
-//! no row differs, the file's tables are those after these events (`specs/Audited.antt`), so all
-//! that is proved of such books holds of it. What two databases are compared by stands in
+//! A file of a book is compared, row by row, with a book in memory that takes the events anew.
+//! Where no row differs, the file's tables are those after these events (`specs/Audited.antt`), so
+//! all that is proved of such books holds of it. What two databases are compared by stands in
 //! `specs/Compared.antt`.
 #![tactic(auto)]
 

@@ -1,11 +1,11 @@
-//! Whether a book in SQL is what a host wrote, by its rows alone.
+//! What may have made a book in SQL.
 //!
-//! [`audit_book`] reads the rows of a book, each table as far as it can be read, has `acq_past` seek
-//! events in them, and audits the book by these.
+//! [`past_of_book`] reads the rows of a book, each table as far as it can be read, and has `acq_past`
+//! seek events in them. What these lead to, `acq_sql_audit` compares with the book.
 #![tactic(auto)]
 
-mod auditing;
 mod listed;
+mod past_of_book;
 mod reading;
 
-pub use auditing::audit_book;
+pub use past_of_book::past_of_book;

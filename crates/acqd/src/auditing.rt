@@ -7,8 +7,8 @@ use acq_commands::TextSink;
 use acq_core::Event;
 use acq_faults::Fault;
 use acq_link::MemorySink;
-use acq_sql_audit::{AuditFault, Difference};
-use acq_sql_past::audit_book;
+use acq_sql_audit::{AuditFault, Difference, audit_file};
+use acq_sql_past::past_of_book;
 use sqlite::{Alter, Connection};
 use std::alloc::Global;
 use std::fmt::Write;
@@ -19,12 +19,12 @@ use std::hash::RandomState;
 pub(crate) fn audit_line<S: Alter + Drop>(
     alloc: Global,
     keys: RandomState,
-    mut connection: Connection<S>,
+    connection: Connection<S>,
     events: Option<Vec<Event>>,
 ) -> Result<Option<Vec<u8>>, Fault>
     ensures { IfErr result IsOpening }
 {
-    match audit_book(alloc, keys, &mut connection, events) {
+    match audited(alloc, keys, connection, events) {
         Ok(None) => Ok(None),
         Ok(Some(difference)) => match line_of(alloc, &difference) {
             Some(line) => Ok(Some(line)),
@@ -34,6 +34,24 @@ pub(crate) fn audit_line<S: Alter + Drop>(
         Err(AuditFault::Store) => Err(Fault::Store),
         Err(AuditFault::NotABook) => Err(Fault::NotABook),
     }
+}
+
+/// Audits the book in a database by these events, or by events that are sought in its rows.
+fn audited<S: Alter + Drop>(
+    alloc: Global,
+    keys: RandomState,
+    mut connection: Connection<S>,
+    events: Option<Vec<Event>>,
+) -> Result<Option<Difference>, AuditFault> {
+    let (limit, past) = past_of_book(alloc, keys, &mut connection, events)?;
+    // What reads leaves no transaction open.
+    if !connection.is_autocommit() {
+        return Err(AuditFault::Store);
+    }
+    let events = past.events.as_slice();
+    let (store, found) = audit_file(alloc, connection, limit, past.first_day, events);
+    drop(store);
+    found
 }
 
 /// The line of a difference, if there is memory for it.
