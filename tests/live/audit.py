@@ -100,6 +100,9 @@ def made_edit(book, table, column, value, which):
         book.execute(f"INSERT INTO {table} VALUES ({value})")
         return f"{table} {len(rows) + 1}: surplus"
     row, = book.execute(f"SELECT min(rowid) FROM {table} WHERE {which}").fetchone()
+    if column == "gone":
+        book.execute(f"DELETE FROM {table} WHERE rowid = ?", (row,))
+        return f"{table} {rows.index(row) + 1}: rowid differs"
     changed = book.execute(f"UPDATE {table} SET {column} = {value} WHERE rowid = ?", (row,))
     wanted(f"rows that {table}.{column} is set in", changed.rowcount, 1)
     return f"{table} {rows.index(row) + 1}: {column} differs"
