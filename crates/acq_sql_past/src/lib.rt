@@ -5,7 +5,7 @@
 #![tactic(auto)]
 
 mod listed;
-mod past_of_book;
 mod reading;
+mod seeking;
 
-pub use past_of_book::past_of_book;
+pub use seeking::past_of_book;
