@@ -74,6 +74,8 @@ still_quiet words (actions.Ranges asked) ended told mid after asks same quiet we
     inl (where_well ended (after ≡ mid) quiet well ∙ same)
 still_quiet words (actions.HostRanges asked) ended told mid after asks same quiet well =
     inl (where_well ended (after ≡ mid) quiet well ∙ same (ends_well ended well))
+still_quiet words (actions.Audit asked) ended told mid after asks same quiet well =
+    inl (where_well ended (after ≡ mid) quiet well ∙ same)
 still_quiet words (actions.Page asked) ended told mid after asks same quiet well =
     inl (where_well ended (after ≡ mid) quiet well ∙ same)
 still_quiet words (Pending asked) ended told mid after asks same quiet well =
