@@ -14,7 +14,7 @@ RANGES = ("addrange,34000000,34999999,1,3,", "addrange,41000000,41999999,12345,7
           "addrange,42000000,42999999,2,31,", "addrange,55000000,55999999,67890,1,")
 CLAIMS = {**{it: "0" * 10 for it in range(74, 78)}, **{it: "0" * 16 for it in range(86, 90)},
           97: "C" + "0" * 16}
-LIMIT = 60
+LIMIT = 25
 
 
 def shop_name(shop):
@@ -29,6 +29,8 @@ class Busy:
         # What was asked for: kind, elements, shop. The next reference of each shop, if no day is
         # full; what may wait for an answer, and what may be held.
         self.asked, self.next, self.open, self.held = [], {}, [], []
+        # What may be admitted of what was asked for.
+        self.good = []
         self.ranges = {it.split(",")[1][:2] for it in RANGES}
         for shop, currency in SHOPS.items():
             self.next[shop] = self.random.randrange(1, 99)
@@ -92,6 +94,7 @@ class Busy:
         if (asks and card[:2] in self.ranges and card != BAD_CARD and elements[49] == SHOPS[shop]
                 and 0 < int(elements[4]) < 10 ** 10
                 and elements.get(14, elements.get(35, "=2912")[-7:][:4]) in ("2912", "=291")):
+            self.good.append(self.asked[-1])
             self.open.append((shop, self.next[shop]))
             self.held += [(shop, self.next[shop])] * (kind == "0100")
             self.next[shop] += 1
@@ -109,7 +112,8 @@ class Busy:
 
     def reverse(self):
         """A reversal of something that was asked for, of which nothing remains or some."""
-        kind, elements, shop = self.random.choice(self.asked[-40:])
+        of = self.good[-6:] if self.good and self.random.random() < 0.7 else self.asked[-40:]
+        kind, elements, shop = self.random.choice(of)
         acquirer = self.random.choice(("0" * 11,) * 5 + ("00000012345", "99999999999"))
         original = f"{kind}{elements[11]}{elements[7]}{acquirer}{'0' * 11}"
         amount = self.random.choice((elements.get(4, "0" * 12),) * 9 + ("000000000077",))
