@@ -130,7 +130,7 @@ class Busy:
         self.frame("0500", shop, own)
 
     def change_ranges(self):
-        """Another range in place of one, whose holds last otherwise; or none, or the first again."""
+        """Another range in place of one, whose holds last otherwise; or none."""
         _, low, high, issuer, _, _ = self.random.choice(RANGES).split(",")
         self.lines.append(f"droprange,{low},{high},,,")
         self.ranges.discard(low[:2])
