@@ -10,7 +10,7 @@ from contextlib import closing
 
 from busy import LIMIT, Busy
 from files import PROGRAM, acqd, in_a_folder_of_its_own
-from terminal import Wrong, run, size, wanted
+from terminal import APPROVING, CARD, DECLINED, UNKNOWN, Book, Host, sale, size, wanted
 
 HERE = os.path.dirname(os.path.abspath(__file__))
 SOUND = (0, b"sound\n", "")
@@ -64,6 +64,24 @@ def of_examples(_):
         wanted("a new book", acqd(["init", "--limit", "999999", "--day", "2024-05-01"])[0], 0)
         wanted("some events", acqd(["replay"], b"".join(lines[:count]))[0], 0)
         wanted(f"{count} events", audit(), SOUND)
+
+
+def of_a_host(program):
+    """The book of a host that served some terminals at once, whose issuer a list answers for."""
+    issuers = f"{APPROVING}{DECLINED},declined,51\n"
+    with Book(program, (1, 2, 3)) as book:
+        with Host(book, "--together", "8", issuers=issuers) as host:
+            ends = [(k, host.terminal()) for k in (1, 2, 3, 1, 2, 3)]
+            for trace in range(1, 60):
+                for at, (k, end) in enumerate(ends):
+                    card = (CARD, CARD, DECLINED, UNKNOWN)[trace % 4]
+                    end.send(sale(k, trace + 100 * (at // 3), card=card))
+                for _, end in ends:
+                    end.reply()
+        with closing(sqlite3.connect(book.path)) as rows:
+            count, = rows.execute("SELECT count(*) FROM requests").fetchone()
+        wanted("requests", count, 6 * 59)
+        wanted("the host's book", book.output("audit"), "sound\n")
 
 
 def other_events(_):
@@ -144,7 +162,7 @@ def other_books(_):
     wanted("no file", audit(), (1, b"", "acqd: 40 NotABook\n"))
 
 
-TRIES = [sound_books, of_examples, other_events, each_edit, other_books]
+TRIES = [sound_books, of_examples, of_a_host, other_events, each_edit, other_books]
 
 if __name__ == "__main__":
     sys.exit(in_a_folder_of_its_own(TRIES))
