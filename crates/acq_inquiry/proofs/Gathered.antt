@@ -59,14 +59,13 @@ each_alone (row ∷ rows) = ap (λ xs. row ∷ xs) (each_alone rows)
 
 -- the lines of the postings that a request made
 pub all_posted : (request : Request) (rows : List (ℕ × Posting)) (v w : PostingLines) →
-    v.request.now ≡ request → v.text.items ≡ [] → SawAll PutsPosting rows v w →
-    w.is_short ≡ false → w.text.items ≡ flat_map (posting_line request) rows
-all_posted request rows v w kept none saw whole =
-    let all = all_gathered PutsPosting (λ u. u.text.items) (λ u. u.is_short)
+    v.request.now ≡ request → SawAll PutsPosting rows v w → w.is_short ≡ false →
+    w.text.items ≡ v.text.items ++ flat_map (posting_line request) rows
+all_posted request rows v w kept saw whole =
+    (all_gathered PutsPosting (λ u. u.text.items) (λ u. u.is_short)
     (λ u. u.request.now ≡ request) (posting_line request)
     (λ u posted x same seen. (
       seen.0 ∙ ap (λ r. u.text.items ++ posting_line r posted) same,
       ap (λ r. r.now) seen.1 ∙ same,
     ))
-    (λ u posted x seen. seen) rows v w kept saw whole in
-    all.0 ∙ ap (λ xs. xs ++ flat_map (posting_line request) rows) none
+    (λ u posted x seen. seen) rows v w kept saw whole).0

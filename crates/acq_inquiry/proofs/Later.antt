@@ -2,9 +2,10 @@
 use Rattle.std.proofs.Common.{◌≡◌, ◌∙◌, ◌++◌, ◌∷◌, ◌+◌, ◌≤◌, ◌==◌, ℕ, zero, suc, Bool, true, false}
 use Rattle.std.proofs.Common.{List, [], Option, Some, None, cond, refl, sym, ap, ap₂, arith, length}
 use Rattle.std.proofs.Common.{take}
-use Rattle.std.specs.Prelude.{◌&&◌, ◌||◌, flat_map, nat_eq}
+use Rattle.std.specs.Prelude.{◌&&◌, ◌||◌, filter, flat_map, nat_eq}
 use Rattle.std.specs.List.{ends_with}
 use Rattle.std.specs.Str.{bytes_eq}
+use Rattle.std.proofs.lemmas.List.Elements.{All-weaker}
 use Rattle.acq_message.specs.declared.request_key.RequestKey.{RequestKey}
 use Rattle.acq_message.specs.Elements.{or_empty, same_key}
 use Rattle.acq_message.specs.Numbers.{is_number}
@@ -16,11 +17,14 @@ use Rattle.acq_core.specs.Arrivals.{arrival_of}
 use Rattle.acq_core.specs.Tables.{Tables, after, after_any, answered_row, followed_row}
 use Rattle.acq_core.specs.Changes.{change_for}
 use Rattle.acq_core.specs.Tables.{known_in, step_tables, tables_after, with_changed}
+use Rattle.acq_statement.proofs.Numbers as numbers
 use Rattle.acq_inquiry.specs.declared.inquiry.Inquiry.{Inquiry}
 use Rattle.acq_inquiry.specs.declared.inquiry.Inquiry.TheVariants.{Reference, Trace, CardEnds}
+use Rattle.acq_inquiry.specs.declared.posted_day.PostedDay.{PostedDay}
 use Rattle.acq_inquiry.specs.declared.search.Search.{Search}
-use Rattle.acq_inquiry.specs.Gathering.{place_if, references_if}
+use Rattle.acq_inquiry.specs.Gathering.{has_one_of, place_if, references_if}
 use Rattle.acq_inquiry.specs.Inquiries.{is_asked, is_found, is_one_of, reference_if}
+use Rattle.acq_inquiry.specs.KeptPostings.{IsKept}
 use Rattle.acq_inquiry.specs.Searching.{IsSearched, given_from}
 
 -- ---- what of a request no event changes
@@ -119,11 +123,13 @@ after_change t (change.SetDay day) = from_itself t.requests
 after_change t (change.AddRequest row) =
     from_more t.requests t.requests (row ∷ []) (from_itself t.requests)
 after_change t (change.Answered key status reply hold_end posting) =
-    from_changed key (answered_row status reply hold_end) (λ x. record { key = refl; reference = refl; follows = refl; day = refl; card = refl })
+    from_changed key (answered_row status reply hold_end)
+    (λ x. record { key = refl; reference = refl; follows = refl; day = refl; card = refl })
     t.requests
 after_change t (change.Follow row original remains posting) =
     from_more t.requests (with_changed original (followed_row remains) t.requests) (row ∷ [])
-    (from_changed original (followed_row remains) (λ x. record { key = refl; reference = refl; follows = refl; day = refl; card = refl })
+    (from_changed original (followed_row remains)
+    (λ x. record { key = refl; reference = refl; follows = refl; day = refl; card = refl })
     t.requests)
 after_change t (change.Reconciled row reconciliation) =
     from_more t.requests t.requests (row ∷ []) (from_itself t.requests)
@@ -167,9 +173,23 @@ given_anywhere gives place [] = refl
 given_anywhere gives place (row ∷ rows) =
     ap (λ xs. gives row ++ xs) (given_anywhere gives (place + 1) rows)
 
-searched_on : (t u : Tables) (s : Search) → GoesOnFrom t.requests u.requests → IsSearched t s →
+-- ---- what is kept of postings
+
+kept_on : (t u : Tables) (m references : List ℕ) →
+    ((day : ℕ) → numbers.GoesOn m day t.postings u.postings) → (kept : PostedDay) →
+    IsKept t m references kept → IsKept u m references kept
+kept_on t u m references posted kept is =
+    let goes = posted kept.day in
+    record {
+      within = omega (arith, is.within, goes.grows);
+      postings = is.postings
+          ∙ ap (filter (has_one_of references)) (sym (goes.same kept.number is.within));
+    }
+
+searched_on : (t u : Tables) (s : Search) → GoesOnFrom t.requests u.requests →
+    ((day : ℕ) → numbers.GoesOn s.merchant day t.postings u.postings) → IsSearched t s →
     IsSearched u s
-searched_on t u s goes is =
+searched_on t u s goes posted is =
     record {
       seen = omega (arith, is.seen, more);
       looked = omega (arith, is.looked, more);
@@ -182,6 +202,9 @@ searched_on t u s goes is =
           ∙ first_give (place_if s.merchant s.inquiry s.references.items)
           (placed_alike s.merchant s.inquiry s.references.items) 0 s.looked t.requests u.requests
           is.looked goes;
+      days = All-weaker (IsKept t s.merchant s.references.items)
+          (IsKept u s.merchant s.references.items)
+          (kept_on t u s.merchant s.references.items posted) s.days.items is.days;
     }
   where
     more : length t.requests ≤ length u.requests
@@ -191,4 +214,5 @@ searched_on t u s goes is =
 pub searched_later : (t : Tables) (events : List Event) (s : Search) → IsSearched t s →
     IsSearched (tables_after t events) s
 searched_later t events s is =
-    searched_on t (tables_after t events) s (after_events t events) is
+    searched_on t (tables_after t events) s (after_events t events)
+    (λ day. numbers.after_events s.merchant day t events) is

@@ -3,4 +3,6 @@ pub mod OnLiterals
 pub mod InTurn
 pub mod Walked
 pub mod Later
+pub mod Kept
+pub mod Among
 pub mod Searched

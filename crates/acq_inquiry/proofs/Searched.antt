@@ -2,23 +2,34 @@
 use Rattle.std.proofs.Common.{◌≡◌, ◌∙◌, ◌⊎◌, ◌++◌, ◌∷◌, ◌+◌, ◌≤◌, ℕ, zero, suc, Bool, true, false}
 use Rattle.std.proofs.Common.{List, [], cond, inl, inr, refl, sym, ap, ap₂, subst, true≢false}
 use Rattle.std.proofs.Common.{append-nil, append_assoc, arith, length, take, drop}
-use Rattle.std.specs.Prelude.{◌&&◌, filter, flat_map, None}
+use Rattle.std.specs.Prelude.{◌&&◌, filter, flat_map, None, Option}
+use Rattle.std.specs.List.{All}
 use Rattle.std.specs.Str.{bytes_eq}
 use Rattle.std.proofs.Math.Seq.{take-add}
 use Rattle.std.proofs.lemmas.List.Concat.{flat_map-append}
+use Rattle.std.proofs.lemmas.List.Elements.{All-nil}
 use Rattle.acq_core.specs.declared.request.Request.{Request}
+use Rattle.acq_core.specs.Pasts.{HasPast}
 use Rattle.acq_core.specs.Tables.{Tables, requests_of}
+use Rattle.acq_soundness.proofs.Members.{In}
 use Rattle.acq_book.specs.Visits.{SawAll}
 use Rattle.acq_inquiry.specs.declared.inquiry.Inquiry.{Inquiry}
 use Rattle.acq_inquiry.specs.declared.looking.Looking.{Looking}
+use Rattle.acq_inquiry.specs.declared.posted_day.PostedDay.{PostedDay}
 use Rattle.acq_inquiry.specs.declared.rows_at.Copying.{Copying}
 use Rattle.acq_inquiry.specs.declared.search.Search.{Search}
 use Rattle.acq_inquiry.specs.declared.seeing.Seeing.{Seeing}
-use Rattle.acq_inquiry.specs.Gathering.{Copies, LooksAt, Sees, goes_on, place_if}
-use Rattle.acq_inquiry.specs.Gathering.{references_if, row_if}
-use Rattle.acq_inquiry.specs.Inquiries.{found_at, is_asked, is_found, references_of}
-use Rattle.acq_inquiry.specs.Searching.{Asks, IsSearched, SeesMore, given_from, row_at}
+use Rattle.acq_statement.specs.Slices.{goes_on}
+use Rattle.acq_inquiry.specs.Gathering.{Copies, LooksAt, Sees, place_if, references_if, row_if}
+use Rattle.acq_inquiry.specs.Inquiries.{found_at, is_asked, is_found, references_of, related_by}
+use Rattle.acq_inquiry.specs.InquiryTexts.{inquiry_text, is_more, many_line, request_text}
+use Rattle.acq_inquiry.specs.InquiryTexts.{text_of_told}
+use Rattle.acq_inquiry.specs.KeptPostings.{IsKept, KeepsDays, text_with, told_with}
+use Rattle.acq_inquiry.specs.RequestLines.{request_lines}
+use Rattle.acq_inquiry.specs.Searching.{Asks, IsSearched, IsWhole, SeesMore, given_from, row_at}
+use Rattle.acq_inquiry.proofs.Among.{all_among}
 use Rattle.acq_inquiry.proofs.Gathered.{each_alone, given_twice}
+use Rattle.acq_inquiry.proofs.Kept.{AreAmong, lines_are}
 use Rattle.acq_inquiry.proofs.Later.{given_anywhere}
 use Rattle.acq_inquiry.proofs.Walked as walks
 
@@ -64,6 +75,15 @@ given_behind gives rows n k within =
     at = omega (arith, taken rows n within)
 
 -- ---- references
+
+-- what is kept by a search's references, by those of another that are the same
+days_by : (t : Tables) (s new : Search) → Asks s.merchant s.inquiry new →
+    new.references.items ≡ s.references.items →
+    All (IsKept t s.merchant s.references.items) new.days.items →
+    All (IsKept t new.merchant new.references.items) new.days.items
+days_by t s new asks refers days =
+    subst (λ r. All (IsKept t new.merchant r) new.days.items) (sym refers)
+    (subst (λ m. All (IsKept t m s.references.items) new.days.items) (sym asks.0) days)
 
 sees_one : (s : Search) (v : Seeing) (row : Request) (more : Bool) (w : Seeing) →
     v.search.now ≡ s → Sees v row more w →
@@ -115,17 +135,27 @@ module _ (t : Tables) (s : Search) (v w : Seeing) (kept : v.search.now ≡ s)
     abbrev LooksOn : Type 0
     LooksOn =
         ((w.references.items ≡ []) × (new.places.items ≡ s.places.items)
-        × (new.looked ≡ s.looked))
-        ⊎ ((new.places.items ≡ []) × (new.looked ≡ 0))
+        × (new.looked ≡ s.looked) × KeepsDays s.days.items new.days.items)
+        ⊎ ((new.places.items ≡ []) × (new.looked ≡ 0) × (new.days.items ≡ []))
 
     looked_still : LooksOn → new.looked ≤ length t.requests
-    looked_still (inl (empty, same, stays)) = omega (arith, stays, is.looked)
-    looked_still (inr (emptied, begins)) = omega (arith, begins)
+    looked_still (inl (empty, same, stays, keeps)) = omega (arith, stays, is.looked)
+    looked_still (inr (emptied, begins, none)) = omega (arith, begins)
+
+    days_still : LooksOn → All (IsKept t new.merchant new.references.items) new.days.items
+    days_still (inl (empty, same, stays, keeps)) =
+        days_by t s new sees.asks
+        (sees.references ∙ ap (λ xs. s.references.items ++ xs) empty
+        ∙ append-nil s.references.items)
+        (keeps t s.merchant s.references.items is.days)
+    days_still (inr (emptied, begins, none)) =
+        subst (All (IsKept t new.merchant new.references.items)) (sym none)
+        (All-nil (IsKept t new.merchant new.references.items))
 
     places_still : LooksOn → new.places.items
         ≡ given_from (place_if new.merchant new.inquiry new.references.items) 0
         (take new.looked t.requests)
-    places_still (inl (empty, same, stays)) =
+    places_still (inl (empty, same, stays, keeps)) =
         same ∙ is.places
         ∙ ap (λ n. given_from (place_if s.merchant s.inquiry s.references.items) 0
         (take n t.requests)) (sym stays)
@@ -134,7 +164,7 @@ module _ (t : Tables) (s : Search) (v w : Seeing) (kept : v.search.now ≡ s)
         ∙ append-nil s.references.items))
         ∙ ap₂ (λ m i. given_from (place_if m i new.references.items) 0
         (take new.looked t.requests)) (sym sees.asks.0) (sym sees.asks.1)
-    places_still (inr (emptied, begins)) =
+    places_still (inr (emptied, begins, none)) =
         emptied
         ∙ ap (λ n. given_from (place_if new.merchant new.inquiry new.references.items) 0
         (take n t.requests)) (sym begins)
@@ -151,6 +181,7 @@ module _ (t : Tables) (s : Search) (v w : Seeing) (kept : v.search.now ≡ s)
           ∙ ap₂ (λ m i. flat_map (references_if m i) (take new.seen t.requests))
           (sym sees.asks.0) (sym sees.asks.1);
       places = places_still sees.looks;
+      days = days_still sees.looks;
     }
 
 -- ---- places
@@ -200,7 +231,8 @@ module _ (t : Tables) (s : Search) (v w : Looking) (kept : v.search.now ≡ s)
 
   module _ (new : Search) (asks : Asks s.merchant s.inquiry new)
       (refers : new.references.items ≡ s.references.items) (stays : new.seen ≡ s.seen)
-      (places : new.places.items ≡ w.places.items) (looked : new.looked ≡ w.looked) where
+      (places : new.places.items ≡ w.places.items) (looked : new.looked ≡ w.looked)
+      (keeps : KeepsDays s.days.items new.days.items) where
     pub looked_on : IsSearched t new
     looked_on = record {
       seen = omega (arith, stays, is.seen);
@@ -218,7 +250,43 @@ module _ (t : Tables) (s : Search) (v w : Looking) (kept : v.search.now ≡ s)
           (take new.looked t.requests)) (sym refers)
           ∙ ap₂ (λ m i. given_from (place_if m i new.references.items) 0
           (take new.looked t.requests)) (sym asks.0) (sym asks.1);
+      days = days_by t s new asks refers (keeps t s.merchant s.references.items is.days);
     }
+
+-- ---- postings
+
+-- what is kept for a search, by what is said of all that it keeps
+pub kept_for : (t : Tables) (s : Search) (m references : List ℕ) (days new : List PostedDay) →
+    m ≡ s.merchant → references ≡ s.references.items → days ≡ s.days.items →
+    (All (IsKept t m references) days → All (IsKept t m references) new) →
+    All (IsKept t s.merchant s.references.items) s.days.items →
+    All (IsKept t s.merchant s.references.items) new
+kept_for t s m references days new same refers are goes all =
+    subst (λ n. All (IsKept t n s.references.items) new) same
+    (subst (λ r. All (IsKept t m r) new) refers
+    (goes (subst (λ n. All (IsKept t n references) days) (sym same)
+    (subst (λ r. All (IsKept t s.merchant r) days) (sym refers)
+    (subst (All (IsKept t s.merchant s.references.items)) (sym are) all)))))
+
+-- what has all but other postings that are kept is a search over the same tables
+pub posted_on : (t : Tables) (s new : Search) → IsSearched t s → Asks s.merchant s.inquiry new →
+    new.references.items ≡ s.references.items → new.seen ≡ s.seen →
+    new.places.items ≡ s.places.items → new.looked ≡ s.looked →
+    All (IsKept t s.merchant s.references.items) new.days.items → IsSearched t new
+posted_on t s new is asks refers seen places looked days = record {
+  seen = omega (arith, seen, is.seen);
+  looked = omega (arith, looked, is.looked);
+  references = refers ∙ is.references
+      ∙ ap (λ n. flat_map (references_if s.merchant s.inquiry) (take n t.requests)) (sym seen)
+      ∙ ap₂ (λ m i. flat_map (references_if m i) (take new.seen t.requests))
+      (sym asks.0) (sym asks.1);
+  places = places ∙ is.places
+      ∙ ap₂ (λ r n. given_from (place_if s.merchant s.inquiry r) 0 (take n t.requests))
+      (sym refers) (sym looked)
+      ∙ ap₂ (λ m i. given_from (place_if m i new.references.items) 0
+      (take new.looked t.requests)) (sym asks.0) (sym asks.1);
+  days = days_by t s new asks refers days;
+}
 
 -- ---- the rows at their places
 
@@ -270,36 +338,118 @@ take_whole (suc n) [] is = absurd (omega (arith, is))
 take_whole zero (x ∷ xs) is = absurd (omega (arith, is))
 take_whole (suc n) (x ∷ xs) is = ap (λ l. x ∷ l) (take_whole n xs (omega (arith, is)))
 
--- the rows at the places of a search that has gone over all rows are those that are found
-pub whole_found : (t : Tables) (s : Search) → IsSearched t s → s.seen ≡ length t.requests →
-    s.looked ≡ length t.requests →
-    flat_map (row_at t) s.places.items ≡ found_at t s.merchant s.inquiry
-whole_found t s is seen looked =
-    ap (flat_map (row_at t)) (is.places
+-- a search that has gone over all rows has the references of those that are asked for
+references_whole : (t : Tables) (s : Search) → IsWhole t s →
+    s.references.items ≡ related_by s.inquiry (requests_of s.merchant t.requests)
+references_whole t s is =
+    is.searched.references
+    ∙ ap (flat_map (references_if s.merchant s.inquiry)) (take_whole s.seen t.requests is.seen)
+    ∙ given_twice (λ row. bytes_eq row.key.merchant s.merchant) (is_asked s.inquiry)
+    references_of t.requests
+
+places_are : (t : Tables) (s : Search) → IsWhole t s →
+    s.places.items
+    ≡ given_from (place_if s.merchant s.inquiry s.references.items) 0 t.requests
+places_are t s is =
+    is.searched.places
     ∙ ap (given_from (place_if s.merchant s.inquiry s.references.items) 0)
-    (take_whole s.looked t.requests looked))
-    ∙ rows_found s.merchant s.inquiry s.references.items t 0 t.requests refl
-    ∙ given_twice (λ row. bytes_eq row.key.merchant s.merchant)
+    (take_whole s.looked t.requests is.looked)
+
+rows_are : (t : Tables) (s : Search) → IsWhole t s →
+    flat_map (row_if s.merchant s.inquiry s.references.items) t.requests
+    ≡ found_at t s.merchant s.inquiry
+rows_are t s is =
+    given_twice (λ row. bytes_eq row.key.merchant s.merchant)
     (is_found s.inquiry s.references.items) (λ row. row ∷ []) t.requests
     ∙ each_alone (filter (is_found s.inquiry s.references.items)
     (requests_of s.merchant t.requests))
     ∙ ap (λ r. filter (is_found s.inquiry r) (requests_of s.merchant t.requests))
-    (is.references
-    ∙ ap (flat_map (references_if s.merchant s.inquiry)) (take_whole s.seen t.requests seen)
-    ∙ given_twice (λ row. bytes_eq row.key.merchant s.merchant) (is_asked s.inquiry)
-    references_of t.requests)
+    (references_whole t s is)
 
--- so are those of one that has seen all rows, and then looked at all
-pub places_whole : (t t1 t2 : Tables) → t1 ≡ t → t2 ≡ t → (s s1 s2 : Search)
-    (places : List ℕ) → places ≡ s2.places.items → IsSearched t s1 →
-    s1.seen ≡ length t.requests → (IsSearched t1 s1 → IsSearched t1 s2) →
-    (IsSearched t1 s1 → s2.looked ≡ length t1.requests) → s2.seen ≡ s1.seen →
-    Asks s.merchant s.inquiry s1 → Asks s1.merchant s1.inquiry s2 →
-    flat_map (row_at t2) places ≡ found_at t s.merchant s.inquiry
-places_whole t t1 t2 e1 e2 s s1 s2 places are is1 seen1 goes whole stays asks1 asks2 =
-    let at1 = subst (λ u. IsSearched u s1) (sym e1) is1 in
-    let is2 = subst (λ u. IsSearched u s2) e1 (goes at1) in
-    let looked2 = whole at1 ∙ ap (λ (u : Tables). length u.requests) e1 in
-    ap₂ (λ u xs. flat_map (row_at u) xs) e2 are
-    ∙ whole_found t s2 is2 (stays ∙ seen1) looked2
-    ∙ ap₂ (λ m i. found_at t m i) (asks2.0 ∙ asks1.0) (asks2.1 ∙ asks1.1)
+-- the rows at its places are those that are found
+pub whole_found : (t : Tables) (s : Search) → IsWhole t s →
+    flat_map (row_at t) s.places.items ≡ found_at t s.merchant s.inquiry
+whole_found t s is =
+    ap (flat_map (row_at t)) (places_are t s is)
+    ∙ rows_found s.merchant s.inquiry s.references.items t 0 t.requests refl
+    ∙ rows_are t s is
+
+-- and it has as many places
+as_many : (merchant : List ℕ) (inquiry : Inquiry) (references : List ℕ) (place : ℕ)
+    (rows : List Request) →
+    length (given_from (place_if merchant inquiry references) place rows)
+    ≡ length (flat_map (row_if merchant inquiry references) rows)
+as_many merchant inquiry references place [] = refl
+as_many merchant inquiry references place (row ∷ rows) =
+    one (bytes_eq row.key.merchant merchant && is_found inquiry references row)
+    (as_many merchant inquiry references (place + 1) rows)
+  where
+    more : List ℕ
+    more = given_from (place_if merchant inquiry references) (place + 1) rows
+
+    found : List Request
+    found = flat_map (row_if merchant inquiry references) rows
+
+    one : (b : Bool) → length more ≡ length found →
+        length (cond b (place ∷ []) [] ++ more) ≡ length (cond b (row ∷ []) [] ++ found)
+    one true same = ap suc same
+    one false same = same
+
+pub whole_many : (t : Tables) (s : Search) → IsWhole t s →
+    length s.places.items ≡ length (found_at t s.merchant s.inquiry)
+whole_many t s is =
+    ap length (places_are t s is)
+    ∙ as_many s.merchant s.inquiry s.references.items 0 t.requests
+    ∙ ap length (rows_are t s is)
+
+-- ---- their text
+
+text_is : (t : Tables) → HasPast t → (s : Search) → IsWhole t s → (row : Request) →
+    In row (found_at t s.merchant s.inquiry) → text_with s.days.items t row ≡ request_text t row
+unfolding request_text
+text_is t past s is row member =
+    let among = all_among t past s.merchant s.inquiry row member in
+    ap (λ xs. request_lines row ++ xs)
+    (lines_are t past s.references.items s.days.items row
+    (subst (λ m. All (IsKept t m s.references.items) s.days.items) (sym among.0)
+    is.searched.days)
+    (subst (λ r. AreAmong r row) (sym (references_whole t s is)) among.1))
+
+texts_are : (f g : Request → List ℕ) (rows : List Request) →
+    ((row : Request) → In row rows → f row ≡ g row) → flat_map f rows ≡ flat_map g rows
+texts_are f g [] same = refl
+texts_are f g (row ∷ rows) same =
+    ap₂ (λ a b. a ++ b) (same row (inl refl)) (texts_are f g rows (λ one at. same one (inr at)))
+
+told_alike : (days : List PostedDay) (t : Tables) (rows : List Request) →
+    ((row : Request) → In row rows → text_with days t row ≡ request_text t row) →
+    told_with days t rows ≡ text_of_told t rows
+told_alike days t [] same = refl
+told_alike days t (row ∷ rows) same =
+    texts_are (text_with days t) (request_text t) (row ∷ rows) same
+
+-- the text with what a search keeps is that of the tables
+pub told_is : (t : Tables) → HasPast t → (s : Search) → IsWhole t s →
+    told_with s.days.items t (flat_map (row_at t) s.places.items)
+    ≡ text_of_told t (found_at t s.merchant s.inquiry)
+told_is t past s is =
+    ap (told_with s.days.items t) (whole_found t s is)
+    ∙ told_alike s.days.items t (found_at t s.merchant s.inquiry) (text_is t past s is)
+
+-- how many there are, or what became of them
+pub many_is : (t : Tables) (s : Search) → IsWhole t s → (most : Option ℕ) →
+    is_more most (length s.places.items) ≡ true →
+    many_line (length s.places.items) ≡ inquiry_text t s.merchant s.inquiry most
+many_is t s is most more =
+    let found = found_at t s.merchant s.inquiry in
+    ap many_line (whole_many t s is)
+    ∙ sym (ap (λ b. cond b (many_line (length found)) (text_of_told t found))
+    (sym (ap (is_more most) (whole_many t s is)) ∙ more))
+
+pub few_is : (t : Tables) (s : Search) → IsWhole t s → (most : Option ℕ) →
+    is_more most (length s.places.items) ≡ false →
+    text_of_told t (found_at t s.merchant s.inquiry) ≡ inquiry_text t s.merchant s.inquiry most
+few_is t s is most few =
+    let found = found_at t s.merchant s.inquiry in
+    sym (ap (λ b. cond b (many_line (length found)) (text_of_told t found))
+    (sym (ap (is_more most) (whole_many t s is)) ∙ few))

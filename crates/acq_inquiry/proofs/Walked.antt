@@ -5,7 +5,7 @@ use Rattle.std.proofs.Common.{length, take, arith}
 use Rattle.std.specs.Prelude.{Option, None}
 use Rattle.acq_core.specs.declared.request.Request.{Request}
 use Rattle.acq_book.specs.Visits.{SawAll}
-use Rattle.acq_inquiry.specs.Gathering.{goes_on}
+use Rattle.acq_statement.specs.Slices.{goes_on}
 use Rattle.acq_inquiry.specs.Searching.{given_from}
 
 -- `items` is what a visitor gathered, `gives` what a row at a place adds, and `one` says what a row

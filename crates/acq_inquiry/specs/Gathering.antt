@@ -1,10 +1,13 @@
 -- What visitors make of a row.
-use Rattle.std.specs.Prelude.{◌≡◌, ◌⊎◌, ℕ, ◌+◌, nat_lt, Bool, true, false, ◌&&◌, List, [], ◌∷◌}
-use Rattle.std.specs.Prelude.{◌++◌, if◌then◌else◌, Option, Some, None}
+use Rattle.std.specs.Prelude.{◌≡◌, ◌⊎◌, ℕ, ◌+◌, ◌==◌, Bool, true, false, ◌&&◌, List, [], ◌∷◌}
+use Rattle.std.specs.Prelude.{◌++◌, if◌then◌else◌}
+use Rattle.std.specs.List.{list_any}
 use Rattle.std.specs.Str.{bytes_eq}
 use Rattle.acq_core.specs.declared.posting.Posting.{Posting}
 use Rattle.acq_core.specs.declared.request.Request.{Request}
 use Rattle.acq_inquiry.specs.declared.inquiry.Inquiry.{Inquiry}
+use Rattle.acq_statement.specs.Slices.{goes_on}
+use Rattle.acq_inquiry.specs.declared.keeping.Keeping.{Keeping}
 use Rattle.acq_inquiry.specs.declared.looking.Looking.{Looking}
 use Rattle.acq_inquiry.specs.declared.posting_lines.PostingLines.{PostingLines}
 use Rattle.acq_inquiry.specs.declared.rows_at.Copying.{Copying}
@@ -34,11 +37,6 @@ abbrev pub place_if : List ℕ → Inquiry → List ℕ → ℕ → Request → 
 place_if merchant inquiry references place row =
     if bytes_eq row.key.merchant merchant && is_found inquiry references row then place ∷ [] else []
 
--- a walk goes on to its end, if it has one
-abbrev pub goes_on : Option ℕ → ℕ → Bool
-goes_on None place = true
-goes_on (Some end) place = nat_lt place end
-
 -- a row's references are there if it is asked for, or memory ran out
 abbrev pub Sees : Seeing → Request → Bool → Seeing → Type 0
 Sees old row more new =
@@ -61,3 +59,19 @@ LooksAt old row more new =
 abbrev pub Copies : Copying → Request → Bool → Copying → Type 0
 Copies old row more new =
     ((new.rows.items ≡ old.rows.items ++ row ∷ []) ⊎ (new.is_short ≡ true)) × (more ≡ false)
+
+-- a posting has one of these references
+abbrev pub has_one_of : List ℕ → ℕ × Posting → Bool
+has_one_of references posted = list_any (λ other. other == posted.1.reference) references
+
+-- a posting, where it has one of these references
+abbrev pub kept_if : List ℕ → ℕ × Posting → List (ℕ × Posting)
+kept_if references posted = if has_one_of references posted then posted ∷ [] else []
+
+-- a posting is kept if it has one of the references, or memory ran out
+abbrev pub KeepsOne : Keeping → ℕ × Posting → Bool → Keeping → Type 0
+KeepsOne old posted more new =
+    ((new.postings.items ≡ old.postings.items ++ kept_if old.references.now posted)
+    × (new.number ≡ posted.0) × (new.gone ≡ old.gone + 1) × (new.end ≡ old.end)
+    × (more ≡ goes_on new.end new.gone) × (new.references ≡ old.references))
+    ⊎ ((new.is_short ≡ true) × (more ≡ false))

@@ -1,6 +1,6 @@
 //! Laws of what is written and of what a search finds, and inquiries, computed.
 
-ghost use Rattle.std.specs.Prelude.{◌≡◌, ◌++◌, ℕ, List, Some, codes};
+ghost use Rattle.std.specs.Prelude.{◌≡◌, ◌++◌, ℕ, List, None, Some, codes};
 ghost use Rattle.acq_core.specs.Tables.{Tables, tables_after};
 ghost use Rattle.acq_core.specs.declared.event.Event.{Event};
 ghost use Rattle.acq_core.specs.declared.request.Request.{Request};
@@ -30,7 +30,7 @@ pub fn what_is_found_stays_found()
 /// A sale that was reversed, by its reference, and by the trace number of its reversal; and a
 /// request that no other is related to.
 pub fn worked_relations()
-    ensures sale { inquiry_text asked_tables first_merchant (Reference 5002)
+    ensures sale { inquiry_text asked_tables first_merchant (Reference 5002) None
         ≡ codes "2024-05-01 PUMP0001 000004 sale of 3000, reference 000000005002, "
         ++ codes "card 411111******1111\n"
         ++ codes "2024-05-01 PUMP0001 000004 reply 00: approved, authorization id 000123\n"
@@ -42,39 +42,44 @@ pub fn worked_relations()
         ++ codes "2024-05-01 PUMP0001 000005 posted on 2024-05-01 as number 3: "
         ++ codes "debit reversal of 3000\n" }
     ensures reversal { inquiry_text asked_tables first_merchant
-        (Trace (codes "PUMP0001") (codes "000005"))
-        ≡ inquiry_text asked_tables first_merchant (Reference 5002) }
+        (Trace (codes "PUMP0001") (codes "000005")) None
+        ≡ inquiry_text asked_tables first_merchant (Reference 5002) None }
     ensures alone { inquiry_text asked_tables first_merchant
-        (Trace (codes "PUMP0001") (codes "000008"))
+        (Trace (codes "PUMP0001") (codes "000008")) None
         ≡ codes "2024-05-01 PUMP0001 000008 reconciliation\n"
         ++ codes "2024-05-01 PUMP0001 000008 reply 00: approved\n" }
 {}
 
-/// Holds, a request that waits, and none.
+/// Holds, a request that waits, none, and more than are to be told of.
 pub fn worked_standings()
-    ensures lowered { inquiry_text asked_tables first_merchant (CardEnds (codes "5559") 8887)
+    ensures lowered { inquiry_text asked_tables first_merchant (CardEnds (codes "5559") 8887) None
         ≡ codes "2024-05-01 PUMP0001 000006 authorization of 3000, reference 000000005003, "
         ++ codes "card 550000******5559\n"
         ++ codes "2024-05-01 PUMP0001 000006 reply 00: approved\n"
         ++ codes "2024-05-01 PUMP0001 000006 lowered to 2000, "
         ++ codes "held until 2024-05-02 09:30:00\n" }
-    ensures held { inquiry_text asked_tables second_merchant (Reference 5002)
+    ensures held { inquiry_text asked_tables second_merchant (Reference 5002) None
         ≡ codes "2024-05-01 PUMP0001 000006 authorization of 3000, reference 000000005002, "
         ++ codes "card 550000******5559\n"
         ++ codes "2024-05-01 PUMP0001 000006 reply 00: approved\n"
         ++ codes "2024-05-01 PUMP0001 000006 held until 2024-05-02 09:30:00\n" }
-    ensures waits { inquiry_text asked_tables first_merchant (Reference 5004)
+    ensures waits { inquiry_text asked_tables first_merchant (Reference 5004) None
         ≡ codes "2024-05-01 PUMP0001 000007 return of 3000, reference 000000005004, "
         ++ codes "card 411111******1111\n"
         ++ codes "2024-05-01 PUMP0001 000007 waits for its issuer\n" }
-    ensures none { inquiry_text asked_tables first_merchant (CardEnds (codes "5559") 8888)
+    ensures none { inquiry_text asked_tables first_merchant (CardEnds (codes "5559") 8888) None
         ≡ codes "nothing found\n" }
+    ensures many { inquiry_text asked_tables first_merchant (Reference 5002) (Some 1)
+        ≡ codes "2 requests found, too many to tell of: ask for one by its reference or trace "
+        ++ codes "number\n" }
+    ensures enough { inquiry_text asked_tables first_merchant (Reference 5002) (Some 2)
+        ≡ inquiry_text asked_tables first_merchant (Reference 5002) None }
 {}
 
 /// A hold whose completion was reversed, a request that was reversed while it waited, and one that
 /// was refused.
 pub fn worked_ends()
-    ensures completed { inquiry_text asked_tables first_merchant (Reference 5005)
+    ensures completed { inquiry_text asked_tables first_merchant (Reference 5005) None
         ≡ codes "2024-05-01 PUMP0001 000011 authorization of 3000, reference 000000005005, "
         ++ codes "card 411111******1111\n"
         ++ codes "2024-05-01 PUMP0001 000011 reply 00: approved\n"
@@ -90,7 +95,7 @@ pub fn worked_ends()
         ++ codes "2024-05-01 PUMP0001 000013 posted on 2024-05-01 as number 5: "
         ++ codes "debit reversal of 3000\n" }
     ensures waited { inquiry_text asked_tables first_merchant
-        (Trace (codes "PUMP0001") (codes "000014"))
+        (Trace (codes "PUMP0001") (codes "000014")) None
         ≡ codes "2024-05-01 PUMP0001 000014 financial request of 3000, reference 000000005006, "
         ++ codes "card 411111******1111\n"
         ++ codes "2024-05-01 PUMP0001 000014 reversed before its issuer answered\n"
@@ -98,7 +103,7 @@ pub fn worked_ends()
         ++ codes "card 411111******1111\n"
         ++ codes "2024-05-01 PUMP0001 000014 reply 00: approved\n" }
     ensures refused { inquiry_text asked_tables first_merchant
-        (Trace (codes "PUMP0001") (codes "000015"))
+        (Trace (codes "PUMP0001") (codes "000015")) None
         ≡ codes "2024-05-01 PUMP0001 000015 authorization of 3000, card 411111******1111\n"
         ++ codes "2024-05-01 PUMP0001 000015 reply 14: invalid card number\n" }
 {}

@@ -1,11 +1,13 @@
 //! Places of the requests that are found, gathered.
 
 ghost use Rattle.std.specs.Prelude.{◌≡◌, ◌++◌, ◌+◌, OnOk};
-ghost use Rattle.acq_inquiry.specs.Gathering.{goes_on, place_if};
+ghost use Rattle.acq_statement.specs.Slices.{goes_on};
+ghost use Rattle.acq_inquiry.specs.Gathering.{place_if};
 
 use crate::search::{Search, goes_on};
 use acq_book::Visit;
 use acq_core::Request;
+use day_totals::Day;
 use std::alloc::AllocError;
 
 /// The places of the requests that a search finds by its references, up to a row.
@@ -15,6 +17,8 @@ pub(crate) struct Looking<'s> {
     pub(crate) places: Vec<u64>,
     /// How many rows were looked at, with those before the walk.
     pub(crate) looked: u64,
+    /// The days of those that are found.
+    pub(crate) on: Vec<Day>,
     /// With so many the walk ends.
     pub(crate) end: Option<u64>,
     /// Memory ran out.
@@ -37,6 +41,7 @@ impl Looking<'_> {
         };
         if self.search.finds(row) {
             self.places.push(self.looked)?;
+            push_day(&mut self.on, row.day)?;
         }
         self.looked = looked;
         Ok(())
@@ -64,4 +69,12 @@ impl Visit<Request> for Looking<'_> {
             }
         }
     }
+}
+
+/// Puts a day behind others, unless it is one of them.
+fn push_day(days: &mut Vec<Day>, day: Day) -> Result<(), AllocError> {
+    if !days.as_slice().contains(&day) {
+        days.push(day)?;
+    }
+    Ok(())
 }

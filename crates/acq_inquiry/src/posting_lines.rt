@@ -1,13 +1,15 @@
 //! The lines of what a request posted.
 
-ghost use Rattle.std.specs.Prelude.{◌≡◌, ◌++◌, is_ok, IfOk, OnOk};
+ghost use Rattle.std.specs.Prelude.{◌≡◌, ◌++◌, flat_map, is_ok, IfOk, OnOk};
 ghost use Rattle.day_totals.specs.Totals.{same_leg};
 ghost use Rattle.acq_book.specs.Calls.{Looks};
 ghost use Rattle.acq_book.specs.Promise.{CountsFault};
 ghost use Rattle.acq_inquiry.specs.PostingLines.{is_posting_of, leg_words, moved_words};
 ghost use Rattle.acq_inquiry.specs.PostingLines.{posted_words, posting_line};
-ghost use Rattle.acq_inquiry.specs.PostingLines.{posting_lines, shares_reference};
+ghost use Rattle.acq_inquiry.specs.PostingLines.{shares_reference};
+ghost use Rattle.acq_inquiry.specs.KeptPostings.{lines_with};
 
+use crate::kept_postings::KeptPostings;
 use crate::line_parts::{put_number, put_start};
 use acq_book::{Book, BookFault, Visit};
 use acq_core::{Posting, Request};
@@ -39,27 +41,47 @@ impl Visit<(u64, Posting)> for PostingLines<'_> {
     }
 }
 
-/// The lines of what a request posted, in order of the postings' numbers.
+/// The lines of what a request posted, in order of the postings' numbers: of those that are kept of
+/// its day, and of those behind the last that was gone over.
 pub(crate) fn posting_lines<B: Book>(
     alloc: Global,
     book: &mut B,
+    kept: &KeptPostings<'_>,
     row: &Request,
 ) -> Result<Vec<u8>, BookFault>
     ensures text { B.is_honest book.new → B.is_open book.old → IfOk result (λ text.
-        text.items ≡ posting_lines (B.tables book.old) row.now) }
+        text.items ≡ lines_with kept.now.days.now (B.tables book.old) row.now) }
     ensures looks { Looks B.Book book.old book.new (is_ok result) }
     ensures store { CountsFault result (B.failures book.old) (B.failures book.new) }
 {
+    let (number, postings) = kept.of(row.day);
+    let mut text = Vec::new(alloc);
+    put_posting_lines(&mut text, row, postings)?;
     let mut lines = PostingLines {
         request: row,
-        text: Vec::new(alloc),
+        text,
         is_short: false,
     };
-    book.walk_postings_above(row.key.merchant, row.day, 0, &mut lines)?;
+    book.walk_postings_above(row.key.merchant, row.day, number, &mut lines)?;
     if lines.is_short {
         return Err(BookFault::Memory);
     }
     Ok(lines.text)
+}
+
+/// Puts the lines of those of these postings that a request made.
+fn put_posting_lines(
+    text: &mut Vec<u8>,
+    row: &Request,
+    postings: &[(u64, Posting)],
+) -> Result<(), AllocError>
+    ensures { OnOk result (text.new.items
+        ≡ text.old.items ++ flat_map (posting_line row.now) postings.now) }
+{
+    for posted in postings {
+        put_posting_line(text, row, posted.0, &posted.1)?;
+    }
+    Ok(())
 }
 
 /// Puts the line of a posting, if a request made it.

@@ -1,34 +1,47 @@
 //! A search that takes slice after slice of the requests.
 
-ghost use Rattle.std.specs.Prelude.{◌≡◌, ◌↔◌, ◌&&◌, length, true, None, is_ok, IfOk};
+ghost use Rattle.std.specs.Prelude.{◌≡◌, ◌↔◌, ◌&&◌, flat_map, length, true, None, is_ok, IfOk};
 ghost use Rattle.std.specs.Str.{bytes_eq};
 ghost use Rattle.acq_book.specs.Calls.{Looks};
 ghost use Rattle.acq_book.specs.Promise.{CountsFault};
 ghost use Rattle.acq_core.specs.Tables.{Tables};
-ghost use Rattle.acq_inquiry.specs.Gathering.{goes_on};
+ghost use Rattle.acq_statement.specs.Slices.{goes_on};
 ghost use Rattle.acq_inquiry.specs.Inquiries.{found_at, is_asked, is_found, is_one_of};
-ghost use Rattle.acq_inquiry.specs.InquiryTexts.{inquiry_text};
-ghost use Rattle.acq_inquiry.specs.Searching.{Asks, IsSearched, SeesMore};
+ghost use Rattle.acq_inquiry.specs.InquiryTexts.{inquiry_text, is_more, text_of_told};
+ghost use Rattle.acq_inquiry.specs.KeptPostings.{told_with};
+ghost use Rattle.acq_inquiry.specs.Searching.{Asks, IsCopied, IsSearched, IsWhole, SeesMore};
+ghost use Rattle.acq_inquiry.specs.Searching.{row_at};
 
 use crate::inquiry::Inquiry;
-use crate::inquiry_text::text_of_found;
+use crate::inquiry_text::{many_text, text_of_told};
+use crate::kept_postings::KeptPostings;
 use crate::looking::Looking;
+use crate::posted_day::{PostedDay, days_copied};
 use crate::rows_at::rows_at;
 use crate::seeing::Seeing;
 use acq_book::{Book, BookFault};
 use acq_core::{MerchantId, Reference, Request};
+use day_totals::Day;
 use std::alloc::{AllocError, Global};
 
 /// So many rows are gone over at a time: a walk's query has read 2, 8 and 64 rows by then, and would
 /// read 512 next.
 const SLICE: u64 = 74;
 
+/// So many references are compared with a row in about the time that the row takes to be read.
+const REFERENCES_A_ROW: u64 = 1_000;
+
+/// While events are taken between slices, a text tells of so many requests at most, since it is
+/// made at one moment.
+pub const MOST_TOLD: u64 = 100;
+
 /// A search for the requests that an inquiry finds among a merchant's, which goes over a book's
-/// requests slice by slice, while events are taken between the slices.
+/// requests, and over the postings of their days, slice by slice, while events are taken between
+/// the slices.
 ///
 /// What it has found stays found, whatever events are taken, since it keeps the places of the
-/// requests, and what decides whether one is found never changes. So its text is that of the tables
-/// at which it is written.
+/// requests, and what decides whether one is found never changes; and postings that come later have
+/// greater numbers. So its text is that of the tables at which it is written.
 #[derive(Drop)]
 pub struct Search {
     merchant: MerchantId,
@@ -41,6 +54,10 @@ pub struct Search {
     places: Vec<u64>,
     /// So many of the first rows were gone over for the places.
     looked: u64,
+    /// The days of the requests that are found.
+    on: Vec<Day>,
+    /// What was kept of the postings of these days.
+    days: Vec<PostedDay>,
     /// The last walk came to the end of the rows.
     is_at_end: bool,
 }
@@ -58,6 +75,8 @@ impl Search {
             seen: 0,
             places: Vec::new(alloc),
             looked: 0,
+            on: Vec::new(alloc),
+            days: Vec::new(alloc),
             is_at_end: false,
         }
     }
@@ -84,41 +103,111 @@ impl Search {
         ensures looks { Looks B.Book book.old book.new (is_ok result) }
         ensures store { CountsFault result (B.failures book.old) (B.failures book.new) }
     {
-        let search = self.see(alloc, book, Some(self.seen.saturating_add(SLICE)))?;
-        if !search.is_at_end {
-            return Ok(search);
+        let seen = self.see(alloc, book, Some(self.seen.saturating_add(self.slice())))?;
+        if !seen.is_at_end {
+            return Ok(seen);
         }
-        search.look(alloc, book, Some(search.looked.saturating_add(SLICE)))
+        let looked = seen.look(alloc, book, Some(seen.looked.saturating_add(seen.slice())))?;
+        if !looked.is_at_end || looked.finds_more_than(Some(MOST_TOLD)) {
+            return Ok(looked);
+        }
+        looked.post(alloc, book, Some(SLICE))
     }
 
-    /// What became of the requests that are found at this moment: the text of [`write_inquiry`].
-    /// Rows that it has not gone over are gone over first, which are few where it is done.
+    /// So many requests are gone over at a time, which are fewer where each is compared with very
+    /// many references.
+    fn slice(&self) -> u64 {
+        let references = self.references.len() as u64;
+        SLICE * REFERENCES_A_ROW / references.saturating_add(REFERENCES_A_ROW) + 1
+    }
+
+    /// Whether it has found more requests than so many.
+    fn finds_more_than(&self, most: Option<u64>) -> bool
+        ensures { result ≡ is_more most (length self.now.places.items) }
+    {
+        match most {
+            Some(most) => most < self.places.len() as u64,
+            None => false,
+        }
+    }
+
+    /// What became of the requests that are found at this moment: the text of [`write_inquiry`], or
+    /// how many they are, where they are more than so many. Rows that it has not gone over are gone
+    /// over first, which are few where it is done.
     ///
     /// [`write_inquiry`]: crate::write_inquiry
     #[tactic(auto, using(acq_book::proofs::Chains::looks_more))]
-    pub fn text<B: Book>(&self, alloc: Global, book: &mut B) -> Result<Vec<u8>, BookFault>
+    pub fn text<B: Book>(
+        &self,
+        alloc: Global,
+        book: &mut B,
+        most: Option<u64>,
+    ) -> Result<Vec<u8>, BookFault>
         ensures text { B.is_honest book.new → B.is_open book.old
             → IsSearched (B.tables book.old) self.now → IfOk result (λ text. text.items
-            ≡ inquiry_text (B.tables book.old) self.now.merchant self.now.inquiry) }
+            ≡ inquiry_text (B.tables book.old) self.now.merchant self.now.inquiry most) }
         ensures looks { Looks B.Book book.old book.new (is_ok result) }
         ensures store { CountsFault result (B.failures book.old) (B.failures book.new) }
     {
-        let rows = self.found(alloc, book)?;
-        text_of_found(alloc, book, rows.as_slice())
+        let whole = self.whole(alloc, book)?;
+        if whole.finds_more_than(most) {
+            return Ok(many_text(alloc, whole.places.len() as u64)?);
+        }
+        whole.told(alloc, book)
     }
 
-    /// The requests that are found at this moment, in the order in which they came.
+    /// Goes over all requests that it has not gone over.
     #[tactic(auto, using(acq_book::proofs::Chains::looks_more))]
-    fn found<B: Book>(&self, alloc: Global, book: &mut B) -> Result<Vec<Request>, BookFault>
-        ensures rows { B.is_honest book.new → B.is_open book.old
-            → IsSearched (B.tables book.old) self.now → IfOk result (λ rows. rows.items
-            ≡ found_at (B.tables book.old) self.now.merchant self.now.inquiry) }
+    fn whole<B: Book>(&self, alloc: Global, book: &mut B) -> Result<Search, BookFault>
+        ensures whole { B.is_honest book.new → B.is_open book.old
+            → IsSearched (B.tables book.old) self.now
+            → IfOk result (IsWhole (B.tables book.old)) }
+        ensures asks { IfOk result (Asks self.now.merchant self.now.inquiry) }
         ensures looks { Looks B.Book book.old book.new (is_ok result) }
         ensures store { CountsFault result (B.failures book.old) (B.failures book.new) }
     {
         let seen = self.see(alloc, book, None)?;
-        let looked = seen.look(alloc, book, None)?;
-        rows_at(alloc, book, looked.places.as_slice())
+        seen.look(alloc, book, None)
+    }
+
+    /// What became of the requests that are found, where all requests were gone over.
+    #[tactic(auto, using(acq_book::proofs::Chains::looks_more))]
+    fn told<B: Book>(&self, alloc: Global, book: &mut B) -> Result<Vec<u8>, BookFault>
+        ensures text { B.is_honest book.new → B.is_open book.old
+            → IsWhole (B.tables book.old) self.now → IfOk result (λ text. text.items
+            ≡ text_of_told (B.tables book.old)
+            (found_at (B.tables book.old) self.now.merchant self.now.inquiry)) }
+        ensures looks { Looks B.Book book.old book.new (is_ok result) }
+        ensures store { CountsFault result (B.failures book.old) (B.failures book.new) }
+    {
+        let posted = self.post(alloc, book, None)?;
+        posted.written(alloc, book)
+    }
+
+    /// What became of the requests at the places, with the postings that are kept.
+    #[tactic(auto, using(acq_book::proofs::Chains::looks_more))]
+    fn written<B: Book>(&self, alloc: Global, book: &mut B) -> Result<Vec<u8>, BookFault>
+        ensures text { B.is_honest book.new → B.is_open book.old → IfOk result (λ text. text.items
+            ≡ told_with self.now.days.items (B.tables book.old)
+            (flat_map (row_at (B.tables book.old)) self.now.places.items)) }
+        ensures looks { Looks B.Book book.old book.new (is_ok result) }
+        ensures store { CountsFault result (B.failures book.old) (B.failures book.new) }
+    {
+        let rows = rows_at(alloc, book, self.places.as_slice())?;
+        text_of_told(alloc, book, &self.kept(), rows.as_slice())
+    }
+
+    /// What it keeps of postings.
+    fn kept(&self) -> KeptPostings<'_>
+        ensures merchant { result.merchant ≡ self.now.merchant }
+        ensures references { result.references.now ≡ self.now.references.items }
+        ensures days { result.days.now ≡ self.now.days.items }
+    {
+        KeptPostings {
+            merchant: self.merchant,
+            references: self.references.as_slice(),
+            days: self.days.as_slice(),
+        }
     }
 
     /// Goes over the rows behind those that were seen, for references; to the end of the rows, or
@@ -156,7 +245,7 @@ impl Search {
     }
 
     /// With more references, of rows up to so many. If there are any, the rows are to be gone over
-    /// for places from the first on.
+    /// for places from the first on, and then the postings.
     fn with_references(
         &self,
         alloc: Global,
@@ -166,22 +255,45 @@ impl Search {
     ) -> Result<Search, AllocError>
         ensures { IfOk result (SeesMore self.now more.now seen) }
     {
+        if more.is_empty() {
+            let mut next = self.copied(alloc)?;
+            next.seen = seen;
+            next.is_at_end = is_at_end;
+            return Ok(next);
+        }
         let mut references = Vec::from_slice(alloc, self.references.as_slice())?;
         references.extend_from_slice(more)?;
-        let mut places = Vec::new(alloc);
-        let mut looked = 0;
-        if more.is_empty() {
-            places.extend_from_slice(self.places.as_slice())?;
-            looked = self.looked;
-        }
         Ok(Search {
             merchant: self.merchant,
             inquiry: self.inquiry,
             references,
             seen,
-            places,
-            looked,
+            places: Vec::new(alloc),
+            looked: 0,
+            on: Vec::new(alloc),
+            days: Vec::new(alloc),
             is_at_end,
+        })
+    }
+
+    /// A copy.
+    fn copied(&self, alloc: Global) -> Result<Search, AllocError>
+        ensures { IfOk result (IsCopied self.now) }
+    {
+        let references = Vec::from_slice(alloc, self.references.as_slice())?;
+        let places = Vec::from_slice(alloc, self.places.as_slice())?;
+        let on = Vec::from_slice(alloc, self.on.as_slice())?;
+        let days = days_copied(alloc, self.days.as_slice())?;
+        Ok(Search {
+            merchant: self.merchant,
+            inquiry: self.inquiry,
+            references,
+            seen: self.seen,
+            places,
+            looked: self.looked,
+            on,
+            days,
+            is_at_end: self.is_at_end,
         })
     }
 
@@ -204,12 +316,14 @@ impl Search {
         ensures looks { Looks B.Book book.old book.new (is_ok result) }
         ensures store { CountsFault result (B.failures book.old) (B.failures book.new) }
     {
-        let references = Vec::from_slice(alloc, self.references.as_slice())?;
+        let mut next = self.copied(alloc)?;
         let places = Vec::from_slice(alloc, self.places.as_slice())?;
+        let on = Vec::from_slice(alloc, self.on.as_slice())?;
         let mut looking = Looking {
             search: self,
             places,
             looked: self.looked,
+            on,
             end,
             is_short: false,
         };
@@ -217,16 +331,35 @@ impl Search {
         if looking.is_short {
             return Err(BookFault::Memory);
         }
-        let is_at_end = looking.goes_on();
-        Ok(Search {
-            merchant: self.merchant,
-            inquiry: self.inquiry,
-            references,
-            seen: self.seen,
-            places: looking.places,
-            looked: looking.looked,
-            is_at_end,
-        })
+        next.is_at_end = looking.goes_on();
+        next.places = looking.places;
+        next.looked = looking.looked;
+        next.on = looking.on;
+        Ok(next)
+    }
+
+    /// Goes over the postings of the requests' days behind those that were gone over; of each day to
+    /// the last, or so many.
+    fn post<B: Book>(
+        &self,
+        alloc: Global,
+        book: &mut B,
+        end: Option<u64>,
+    ) -> Result<Search, BookFault>
+        ensures goes { B.is_honest book.new → B.is_open book.old
+            → IsSearched (B.tables book.old) self.now
+            → IfOk result (λ search. IsSearched (B.tables book.old) search) }
+        ensures seen { IfOk result (λ search. search.seen ≡ self.now.seen) }
+        ensures looked { IfOk result (λ search. search.looked ≡ self.now.looked) }
+        ensures asks { IfOk result (Asks self.now.merchant self.now.inquiry) }
+        ensures looks { Looks B.Book book.old book.new (is_ok result) }
+        ensures store { CountsFault result (B.failures book.old) (B.failures book.new) }
+    {
+        let mut next = self.copied(alloc)?;
+        let days = self.kept().go_on(alloc, book, self.on.as_slice(), end)?;
+        next.is_at_end = days.as_slice().iter().all(|day| day.is_at_end);
+        next.days = days;
+        Ok(next)
     }
 
     /// Whether a request is the merchant's and asked for.

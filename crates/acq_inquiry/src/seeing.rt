@@ -1,7 +1,8 @@
 //! References of the requests that are asked for, gathered.
 
 ghost use Rattle.std.specs.Prelude.{◌≡◌, ◌++◌, ◌+◌, OnOk};
-ghost use Rattle.acq_inquiry.specs.Gathering.{goes_on, references_if};
+ghost use Rattle.acq_statement.specs.Slices.{goes_on};
+ghost use Rattle.acq_inquiry.specs.Gathering.{references_if};
 ghost use Rattle.acq_inquiry.specs.Inquiries.{reference_if};
 
 use crate::search::{Search, goes_on};

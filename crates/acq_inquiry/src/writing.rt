@@ -1,6 +1,6 @@
 //! What became of requests, written.
 
-ghost use Rattle.std.specs.Prelude.{◌≡◌, ◌≢◌, ◌+◌, Err};
+ghost use Rattle.std.specs.Prelude.{◌≡◌, ◌≢◌, ◌+◌, Err, None};
 ghost use Rattle.acq_book.specs.Calls.{Looks};
 ghost use Rattle.acq_reports.specs.Faults.{CountsStore, failed_writes, is_settled};
 ghost use Rattle.acq_reports.specs.Refusals.{merchant_refusal};
@@ -35,7 +35,7 @@ pub fn write_inquiry<B: Book, K: Sink>(
 ) -> Result<(), ReportFault>
     ensures text { B.is_honest book.new → B.is_open book.old → Reports
         (merchant_refusal (B.tables book.old) merchant)
-        (inquiry_text (B.tables book.old) merchant inquiry.now)
+        (inquiry_text (B.tables book.old) merchant inquiry.now None)
         (K.sent writer.old) (K.sent writer.new) result }
     ensures writes { K.failures writer.new ≡ K.failures writer.old + failed_writes result }
     ensures looks { Looks B.Book book.old book.new (is_settled result) }
@@ -55,14 +55,14 @@ fn write_found<B: Book, K: Sink>(
     writer: &mut K,
 ) -> Result<(), ReportFault>
     ensures text { B.is_honest book.new → B.is_open book.old → Writes K.sent K.failures
-        (inquiry_text (B.tables book.old) merchant inquiry.now)
+        (inquiry_text (B.tables book.old) merchant inquiry.now None)
         writer.old writer.new result }
     ensures writes { K.failures writer.new ≡ K.failures writer.old + failed_writes result }
     ensures looks { Looks B.Book book.old book.new (is_settled result) }
     ensures store { CountsStore result (B.failures book.old) (B.failures book.new) }
 {
     let search = Search::of(alloc, merchant, *inquiry);
-    let text = search.text(alloc, book)?;
+    let text = search.text(alloc, book, None)?;
     put_text(alloc, text.as_slice(), writer)
 }
 

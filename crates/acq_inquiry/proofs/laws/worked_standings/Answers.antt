@@ -9,4 +9,6 @@ returns c = record {
   held = refl;
   waits = refl;
   none = refl;
+  many = refl;
+  enough = refl;
 }
