@@ -19,7 +19,8 @@ pub on_ok : {T E P : Type 0} (result : Result T E) → P → OnOk result P
 on_ok (Ok x) so = so
 on_ok (Err e) so = tt
 
-pub on_err_too : {T E P Q : Type 0} (result : Result T E) → (P → Q) → OnErr result P → OnErr result Q
+pub on_err_too : {T E P Q : Type 0} (result : Result T E) → (P → Q) → OnErr result P →
+    OnErr result Q
 on_err_too (Ok x) so is = tt
 on_err_too (Err e) so is = so is
 
@@ -29,7 +30,8 @@ on_ok_too (Err e) so is = tt
 
 module _ {S : Type 0} (book : Ghosts S) (day moment : ℕ) where
   -- the look failed
-  pub unlooked : {a b : S} → Looks book a b false → DoesSome book a b (Some (question.End day moment))
+  pub unlooked : {a b : S} → Looks book a b false →
+      DoesSome book a b (Some (question.End day moment))
   unlooked looks = (false, (false, looks, λ done h o. absurd (true≢false (sym done))))
 
   module _ {a b : S} (looks : Looks book a b true) where

@@ -13,7 +13,6 @@ use Rattle.acq_reports.specs.declared.report_fault.ReportFault.{ReportFault}
 use Rattle.acq_directory.specs.Listings.{listing_text}
 use Rattle.acq_statement.specs.DaySums.{day_sums}
 use Rattle.acq_statement.specs.ReportCsv.{report_csv}
-use Rattle.acq_inquiry.specs.InquiryTexts.{inquiry_text}
 use Rattle.acq_status.specs.Figures.{figures_at}
 use Rattle.acq_status.specs.Texts.{text_in}
 use Rattle.acq_stand_in.specs.Pending.{pending_text}
@@ -21,6 +20,7 @@ use Rattle.acq_explain.specs.Explained.{explained_in}
 use Rattle.acq_faults.specs.DayReport.{report_text}
 use Rattle.acq_faults.specs.Faults.{fault_line, of_report}
 use Rattle.acq_faults.specs.declared.fault.Fault.TheVariants.{BadLine, OtherDay}
+use Rattle.acq_control.specs.Found.{found_text}
 use Rattle.acq_control.specs.Stated.{text_stated}
 use Rattle.acq_control.specs.declared.question.Question.{Question}
 use Rattle.acq_control.specs.declared.question.Question.TheVariants as question
@@ -56,8 +56,7 @@ answer_of t number (Some (question.Sums day)) = text_answer (day_sums t day)
 answer_of t number (Some (question.Statement asked)) =
     text_unless_refused (merchant_refusal t asked.merchant) (text_stated t asked)
 answer_of t number (Some (question.Find sought)) =
-    text_unless_refused (merchant_refusal t sought.merchant)
-    (inquiry_text t sought.merchant sought.inquiry)
+    text_unless_refused (merchant_refusal t sought.merchant) (found_text t sought)
 answer_of t number (Some (question.Holds merchant moment)) =
     text_unless_refused (merchant_refusal t merchant) (holds_text t merchant moment)
 answer_of t number (Some (question.Pending day moment)) =

@@ -16,13 +16,13 @@ ghost use Rattle.acq_reports.specs.declared.report_fault.ReportFault as report_f
 ghost use Rattle.acq_clearing.specs.ClearingFile.{clearing_text};
 ghost use Rattle.acq_faults.specs.DayReport.{report_text};
 ghost use Rattle.acq_faults.specs.Faults.{fault_line, of_report};
-ghost use Rattle.acq_inquiry.specs.InquiryTexts.{inquiry_text};
 ghost use Rattle.acq_stand_in.specs.Pending.{pending_text};
 ghost use Rattle.acq_statement.specs.ReportCsv.{report_csv};
 ghost use Rattle.acq_control.specs.Answers.{answer_of, answer_to_end, heading_of, text_answer};
 ghost use Rattle.acq_control.specs.Answers.{text_unless_refused};
 ghost use Rattle.acq_control.specs.Doing.{Does, DoesSome, IsRefusal, IsSettled, TellsAs};
 ghost use Rattle.acq_control.specs.Doing.{TellsStore};
+ghost use Rattle.acq_control.specs.Found.{found_text};
 ghost use Rattle.acq_control.specs.Stated.{text_stated};
 ghost use Rattle.acq_control.specs.Unmade.{MayBeUnmade, Puts, Says};
 ghost use Rattle.acq_control.specs.declared.question.Question.TheVariants as question;
@@ -288,7 +288,7 @@ fn put_found<B: Book + Drop>(
         → MayBeUnmade (B.tables host.old) prepared.now → OnOk result (sent_of answer.new
         ≡ sent_of answer.old ++ text_unless_refused
         (merchant_refusal (B.tables host.old) sought.merchant)
-        (inquiry_text (B.tables host.old) sought.merchant sought.inquiry)) }
+        (found_text (B.tables host.old) sought)) }
     ensures does { OnOk result (Looks B.Book host.old host.new true) }
     ensures refused { OnErr result ((done : Bool) × Looks B.Book host.old host.new done) }
     ensures store { TellsStore B.Book host.old host.new result }

@@ -3,8 +3,8 @@
 ghost use Rattle.std.specs.Prelude.{◌≡◌, Some, is_ok, IfOk, IfSome};
 ghost use Rattle.acq_book.specs.Calls.{Looks};
 ghost use Rattle.acq_book.specs.Promise.{CountsFault};
-ghost use Rattle.acq_inquiry.specs.InquiryTexts.{inquiry_text};
 ghost use Rattle.acq_inquiry.specs.Searching.{Asks};
+ghost use Rattle.acq_control.specs.Found.{found_text};
 ghost use Rattle.acq_control.specs.Unmade.{MayBeUnmade};
 ghost use Rattle.acq_control.specs.declared.unmade_answer.UnmadeAnswer.TheVariants.{Finding};
 
@@ -12,7 +12,7 @@ use crate::sought::Sought;
 use crate::unmade_answer::UnmadeAnswer;
 use acq_book::{Book, BookFault};
 use acq_host::BookLook;
-use acq_inquiry::Search;
+use acq_inquiry::{MOST_TOLD, Search};
 use std::alloc::Global;
 
 /// What became of requests of which rows may have been gone over.
@@ -45,16 +45,15 @@ impl Found<'_> {
     fn text<B: Book>(&self, alloc: Global, book: &mut B) -> Result<Vec<u8>, BookFault>
         ensures text { B.is_honest book.new → B.is_open book.old
             → MayBeUnmade (B.tables book.old) self.now.unmade.now → IfOk result (λ text.
-            text.items ≡ inquiry_text (B.tables book.old) self.now.sought.merchant
-            self.now.sought.inquiry) }
+            text.items ≡ found_text (B.tables book.old) self.now.sought) }
         ensures looks { Looks B.Book book.old book.new (is_ok result) }
         ensures store { CountsFault result (B.failures book.old) (B.failures book.new) }
     {
         match self.search() {
-            Some(search) => search.text(alloc, book),
+            Some(search) => search.text(alloc, book, Some(MOST_TOLD)),
             None => {
                 let search = Search::of(alloc, self.sought.merchant, self.sought.inquiry);
-                search.text(alloc, book)
+                search.text(alloc, book, Some(MOST_TOLD))
             }
         }
     }

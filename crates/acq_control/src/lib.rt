@@ -5,8 +5,8 @@
 //! `Conversation` is one of a terminal's: it is fed with what comes, has the host do what the lines
 //! ask turn by turn, and holds what is to be written. A clearing file is made slice by slice, and so
 //! are rows gone over for a statement and for what is found, so that others are served between two
-//! of them. A [`ControlExchange`] is one over a line whose reads and writes don't wait. What they have to do with one host, among terminals, stands in
-//! `specs/Log.antt` and [`laws`].
+//! of them. A [`ControlExchange`] is one over a line whose reads and writes don't wait. What they
+//! have to do with one host, among terminals, stands in `specs/Log.antt` and [`laws`].
 //!
 //! [`tell`] is the other side of such a connection: the lines of an input in, and what the host
 //! says to them out.

@@ -1,6 +1,7 @@
 //! What seeks the past of a book.
 
 use crate::book_rows::BookRows;
+use crate::finder_ranges::unless_short;
 use crate::frames::{is_refused_with, moment, request_of};
 use crate::places::Places;
 use acq_core::{Event, MessageText, Moment, Request, RequestKey, Service, Status, Verdict};
@@ -126,8 +127,7 @@ impl<'a> Finder<'a> {
         }
         let mut copies = RangeList::new(self.alloc);
         for range in ranges.as_slice().iter() {
-            // Those of a list never overlap.
-            let _ = copies.add(range.copied(self.alloc)?);
+            unless_short(copies.add(range.copied(self.alloc)?))?;
         }
         self.ranges = copies;
         Ok(())

@@ -3,7 +3,7 @@
 use crate::finder::Finder;
 use crate::frames::is_refused_with;
 use acq_core::{Event, Request, Service};
-use card_no::{CardNumber, IssuerId, Prefix, Range};
+use card_no::{CardNumber, IssuerId, Prefix, Range, RangeFault};
 use std::alloc::AllocError;
 
 /// The issuer of a range of which no row is left. Which it was, no row of a request says.
@@ -44,8 +44,7 @@ impl<'a> Finder<'a> {
         };
         let (low, high) = (range.low, range.high);
         self.events.push(Event::DropRange(low, high))?;
-        let _ = self.ranges.remove(low, high);
-        Ok(())
+        unless_short(self.ranges.remove(low, high))
     }
 
     /// Adds a range of one prefix.
@@ -58,7 +57,14 @@ impl<'a> Finder<'a> {
         };
         self.events
             .push(Event::AddRange(range.copied(self.alloc)?))?;
-        let _ = self.ranges.add(range);
-        Ok(())
+        unless_short(self.ranges.add(range))
+    }
+}
+
+/// Nothing, unless memory ran out: a range that a list can't take is told by what differs then.
+pub(crate) fn unless_short(changed: Result<(), RangeFault>) -> Result<(), AllocError> {
+    match changed {
+        Err(RangeFault::Memory) => Err(AllocError),
+        _ => Ok(()),
     }
 }

@@ -2,7 +2,20 @@ use Rattle.std.proofs.Common.{◌≡◌, ◌++◌, ◌∙◌, ℕ, List, None, a
 use Rattle.acq_core.specs.Tables.{Tables}
 use Rattle.acq_control.specs.Unmade.{Puts}
 use Rattle.acq_control.proofs.answering.put_question.Goals as goal
-use Rattle.acq_control.proofs.answering.put_question.Goals.{in-ReportCsv+in_ok-put_report_csv-in-ReportCsv, in-Sums+in_ok-put_asked-in-Sums, in-Event+in_ok-put_event-in-Event, in-Find+in_ok-put_found-in-Find, in-Statement+in_ok-put_statement-in-Statement, in-Holds+in_ok-put_holds-in-Holds, in-Pending+in_ok-put_pending-in-Pending, in-Explain+in_ok-put_asked-in-Explain, in-List+in_ok-put_asked-in-List, in-Status+in_ok-put_asked-in-Status, in-End+in_ok-put_end-in-End, in-Reopen+in_ok-put-in-Reopen, in-Stop+in_ok-put-in-Stop}
+use Rattle.acq_control.proofs.answering.put_question.Goals.{}
+use Rattle.acq_control.proofs.answering.put_question.Goals.{in-ReportCsv+in_ok-put_report_csv-in-ReportCsv}
+use Rattle.acq_control.proofs.answering.put_question.Goals.{in-Sums+in_ok-put_asked-in-Sums}
+use Rattle.acq_control.proofs.answering.put_question.Goals.{in-Event+in_ok-put_event-in-Event}
+use Rattle.acq_control.proofs.answering.put_question.Goals.{in-Find+in_ok-put_found-in-Find}
+use Rattle.acq_control.proofs.answering.put_question.Goals.{in-Statement+in_ok-put_statement-in-Statement}
+use Rattle.acq_control.proofs.answering.put_question.Goals.{in-Holds+in_ok-put_holds-in-Holds}
+use Rattle.acq_control.proofs.answering.put_question.Goals.{in-Pending+in_ok-put_pending-in-Pending}
+use Rattle.acq_control.proofs.answering.put_question.Goals.{in-Explain+in_ok-put_asked-in-Explain}
+use Rattle.acq_control.proofs.answering.put_question.Goals.{in-List+in_ok-put_asked-in-List}
+use Rattle.acq_control.proofs.answering.put_question.Goals.{in-Status+in_ok-put_asked-in-Status}
+use Rattle.acq_control.proofs.answering.put_question.Goals.{in-End+in_ok-put_end-in-End}
+use Rattle.acq_control.proofs.answering.put_question.Goals.{in-Reopen+in_ok-put-in-Reopen}
+use Rattle.acq_control.proofs.answering.put_question.Goals.{in-Stop+in_ok-put-in-Stop}
 
 -- all of it was put
 all_put : (now : Tables) (old new text : List ℕ) → new ≡ old ++ text → Puts now old new text None
