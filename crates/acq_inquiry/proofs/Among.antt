@@ -1,6 +1,6 @@
 -- A request that is found has its references among those of the requests that are asked for.
 use Rattle.std.proofs.Common.{◌≡◌, ◌∙◌, ◌⊎◌, ◌++◌, ◌∷◌, ◌==◌, ℕ, Bool, true, false, List, [], Option}
-use Rattle.std.proofs.Common.{Some, None, cond, inl, inr, refl, sym, ap, ap₂, subst, arith, filter}
+use Rattle.std.proofs.Common.{Some, None, cond, inl, inr, refl, sym, ap, subst, arith, filter}
 use Rattle.std.proofs.Common.{true≢false}
 use Rattle.std.specs.Prelude.{◌||◌, IfSome, flat_map}
 use Rattle.std.specs.List.{AllByRecursion, list_any}

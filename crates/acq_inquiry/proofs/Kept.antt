@@ -1,11 +1,10 @@
 -- What a search keeps of postings.
-use Rattle.std.proofs.Common.{◌≡◌, ◌∙◌, ◌⊎◌, ◌++◌, ◌∷◌, ◌+◌, ◌==◌, ◌≤◌, ℕ, suc, Bool, true, false, List}
+use Rattle.std.proofs.Common.{◌≡◌, ◌∙◌, ◌⊎◌, ◌++◌, ◌∷◌, ◌+◌, ◌==◌, ◌≤◌, ℕ, Bool, true, false, List}
 use Rattle.std.proofs.Common.{[], Option, Some, None, cond, inl, inr, refl, sym, ap, ap₂, subst, arith}
-use Rattle.std.proofs.Common.{append_assoc, append-nil, filter, length, true≢false}
+use Rattle.std.proofs.Common.{append_assoc, append-nil, filter, true≢false}
 use Rattle.std.specs.Prelude.{◌&&◌, ◌||◌, IfSome, find, flat_map}
 use Rattle.std.specs.List.{All, list_any}
 use Rattle.std.specs.Str.{bytes_eq}
-use Rattle.std.proofs.lemmas.Bool.{and_from, and_parts}
 use Rattle.std.proofs.lemmas.Bool.Decides.{nat_tests}
 use Rattle.std.proofs.lemmas.List.{append_cancel_right}
 use Rattle.std.proofs.lemmas.List.Concat.{flat_map-append}
@@ -26,7 +25,6 @@ use Rattle.acq_statement.proofs.SumsOfTerminals.{last_number}
 use Rattle.acq_inquiry.specs.declared.keeping.Keeping.{Keeping}
 use Rattle.acq_inquiry.specs.declared.posted_day.PostedDay.{PostedDay}
 use Rattle.acq_inquiry.specs.Gathering.{KeepsOne, has_one_of, kept_if}
-use Rattle.acq_inquiry.specs.Inquiries.{references_of}
 use Rattle.acq_inquiry.specs.KeptPostings.{IsKept, IsSameDay, is_on, kept_by, kept_in}
 use Rattle.acq_inquiry.specs.KeptPostings.{lines_with}
 use Rattle.acq_inquiry.specs.PostingLines.{posting_line, posting_lines}

@@ -1,4 +1,4 @@
-use Rattle.std.proofs.Common.{◌∙◌, ◌++◌, ap, ap₂, refl}
+use Rattle.std.proofs.Common.{◌∙◌, ◌++◌, ap₂, refl}
 use Rattle.std.specs.Prelude.{flat_map}
 use Rattle.acq_book.specs.Lookups.{postings_above_at}
 use Rattle.acq_inquiry.specs.PostingLines.{posting_line}

@@ -1,6 +1,3 @@
-use Rattle.std.proofs.Common.{◌∙◌, subst, sym}
-use Rattle.std.specs.List.{All}
-use Rattle.acq_inquiry.specs.KeptPostings.{IsKept}
 use Rattle.acq_inquiry.proofs.Searched.{kept_for, posted_on}
 use Rattle.acq_inquiry.proofs.search.Search.post.Goals as goal
 

@@ -2,7 +2,7 @@ use Rattle.std.proofs.Common.{◌≡◌, ◌∙◌, ap, ap₂, length, refl, rul
 use Rattle.std.specs.Prelude.{IfOk}
 use Rattle.std.specs.Vec.{vec_len}
 use Rattle.acq_inquiry.specs.Inquiries.{found_at}
-use Rattle.acq_inquiry.specs.InquiryTexts.{inquiry_text, is_more, many_line, text_of_told}
+use Rattle.acq_inquiry.specs.InquiryTexts.{inquiry_text, many_line, text_of_told}
 use Rattle.acq_inquiry.specs.Searching.{IsWhole}
 use Rattle.acq_inquiry.proofs.Searched.{few_is, many_is}
 use Rattle.acq_inquiry.proofs.search.Search.text.Goals as goal
