@@ -446,11 +446,17 @@ def a_file_in_slices(program):
 
 
 def found_in_slices(program):
-    """Terminals and other control connections go on while requests are gone over for a `find`."""
+    """Terminals and other control connections go on while requests and postings are gone over for a
+    `find`; of more than a hundred requests a host says how many they are, and a file tells of all."""
     with Book(program, SHOPS) as book:
-        end_day(book)
+        # All sales of the day are of one shop.
+        end_day(book, SHOPS[:1])
         words = ["--merchant", merchant(SHOPS[0]), "--reference", "1"]
         text = book.output("find", *words).encode()
+        words[2:] = ["--card-ends", "1111", "--day", DAY]
+        lines = Counter(line.split()[3] for line in book.output("find", *words).splitlines())
+        told = {"sale": SALES, "reply": SALES, "posted": SALES}
+        wanted("what a file tells of all sales of a day", lines, told)
         with Host(book, "--together", "8", control=True) as host:
             one, other, seller = host.control(), host.control(), Seller(host)
             # Each has its place, in this order.
@@ -465,6 +471,10 @@ def found_in_slices(program):
                 seen.append((answered, early is not None))
             go_away(host, seller, asked, len(text) // 2)
             wanted("what is found once others went away", one.ask(asked), text)
+            many = f"{SALES} requests found, too many to tell of: "
+            many += "ask for one by its reference or trace number\n"
+            asked = f"find,{merchant(SHOPS[0])},card,1111,{DAY}"
+            wanted("all sales of a day over a socket", one.ask(asked), many.encode())
 
 
 def stated_in_slices(program):

@@ -391,7 +391,7 @@ fn end_waiting_first<B: Book + Drop, C: Clock, F: Sink>(
     faults: &mut F,
 ) -> (B, Result<(), Fault>)
     requires past { B.is_open book → HasPast (B.tables book) }
-    // Where it is asked for, so many get no answer, and nothing else comes of it; else nothing does.
+    // If it is asked for, so many get no answer, and nothing else comes of it; else nothing does.
     ensures ended { asked.now.end_waiting ≡ true → B.is_honest result.0 → B.is_open book
         → (moment : ℕ) × C.may_give clock.old moment
         × EndsWaiting moment (B.tables book) (left_of B.Book result.0) result.1 }
@@ -403,6 +403,17 @@ fn end_waiting_first<B: Book + Drop, C: Clock, F: Sink>(
         end_waiting_on(alloc, book, clock, faults)
     } else {
         (book, Ok(()))
+    }
+}
+
+/// Has the book count the day's messages, which it then recalls, if it may be asked for figures.
+/// All requests are gone over for that, and no terminal waits for it yet. A fault of the store
+/// comes to whoever asks it next.
+fn count_first<B: Book>(book: &mut B, asked: &ListenOptions) {
+    if asked.control.is_some() {
+        if let Ok(day) = book.day() {
+            let _ = book.used_on(day);
+        }
     }
 }
 
@@ -429,7 +440,8 @@ fn serve_over<B: Lenient + Drop, M: Machine<B> + Drop, C: Clock, I: Issuer + Dro
 ) -> Result<(), Fault> {
     let server = machine.serve_at(alloc, asked);
     let opened = machine.open_book(asked.path.as_str());
-    let (book, mut issuer, mut server) = all_opened(opened, issuers, server)?;
+    let (mut book, mut issuer, mut server) = all_opened(opened, issuers, server)?;
+    count_first(&mut book, asked);
     let book = RecallingBook::new(alloc, keys, book);
     let (book, ended) = end_waiting_first(alloc, book, asked, clock, faults);
     let ran = match ended {
