@@ -26,7 +26,7 @@ module _ {S T : Type 0} (g : Ghosts S) (old new : Kept S) (result : Result T Err
     (fits : (began : Tables) (faults : ℕ) → is_within g old began faults → suits (tables g old))
     (past : (began : Tables) (faults : ℕ) → is_within g old began faults
     → HasPast (changes (tables g old)))
-    (recalls : is_ok result ≡ true → Recalls old.memo (tables g old)
+    (recalls : is_ok result ≡ true → HasPast (tables g old) → Recalls old.memo (tables g old)
     → Recalls new.memo (changes (tables g old)))
     (same_group : new.in_group ≡ old.in_group) where
   abbrev before : State
@@ -66,7 +66,7 @@ module _ {S T : Type 0} (g : Ghosts S) (old new : Kept S) (result : Result T Err
           inside = subst (IsIn after began) same (in_changed began faults is clean w);
           past = subst HasPast same (past began faults w);
           began_past = w.began_past;
-          recalls = subst (Recalls new.memo) same (recalls is w.recalls);
+          recalls = subst (Recalls new.memo) same (recalls is w.past w.recalls);
           begun = same_group ∙ w.begun;
           since = omega (arith, up, since);
         };

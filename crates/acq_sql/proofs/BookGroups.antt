@@ -81,7 +81,7 @@ module _ {S T : Type 0} (g : Ghosts S) (old new : Kept S) (change : Change)
 
   module _ (fits : IsLive (is_open g) (is_within g) old → Fits (tables g old) change)
       (past : IsLive (is_open g) (is_within g) old → HasPast changed)
-      (recalls : is_ok result ≡ true → (t : core.Tables) → Recalls old.memo t
+      (recalls : is_ok result ≡ true → (t : core.Tables) → HasPast t → Recalls old.memo t
       → Recalls new.memo (core.after t change))
       (same_group : new.in_group ≡ old.in_group) where
     pub makes_within_at : MakesWithinBy (tables g) (is_honest g) (is_within g) (can_return g)

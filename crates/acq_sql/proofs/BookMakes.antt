@@ -50,7 +50,7 @@ module _ {S T : Type 0} (g : Ghosts S) (law : LeavesCommit g) (old new : Kept S)
     (applies : Applies (state g old.connection) (state g new.connection) result change)
     (fits : is_open g old → Fits (tables g old) change)
     (past : is_open g old → HasPast (core.after (tables g old) change))
-    (recalls : is_ok result ≡ true → (t : core.Tables) → Recalls old.memo t
+    (recalls : is_ok result ≡ true → (t : core.Tables) → HasPast t → Recalls old.memo t
     → Recalls new.memo (core.after t change))
     (forgets : is_ok result ≡ false → new.memo ≡ nothing_recalled)
     (same_group : new.in_group ≡ old.in_group) where
@@ -95,8 +95,8 @@ module _ {S T : Type 0} (g : Ghosts S) (law : LeavesCommit g) (old new : Kept S)
 
   opens_changed : is_ok result ≡ true → HasCleanDisk after → is_open g old → is_open g new
   opens_changed is clean o =
-      opens g new changed clean (led is clean o) (past o) (recalls is (tables g old) o.recalls)
-      (same_group ∙ o.outside)
+      opens g new changed clean (led is clean o) (past o)
+      (recalls is (tables g old) o.opened.past o.recalls) (same_group ∙ o.outside)
 
   stays : HasCleanDisk after → is_open g old → IsTrue after.is_open → is_open g new
   stays clean o opened =

@@ -1,13 +1,19 @@
 -- What a book recalls of its tables stays so.
-use Rattle.std.proofs.Common.{◌≡◌, ◌==◌, ◌&&◌, ◌+◌, ℕ, Bool, true, false, true≢false, cond}
+use Rattle.std.proofs.Common.{◌≡◌, ◌==◌, ◌&&◌, ◌+◌, ◌<◌, ℕ, Bool, true, false, true≢false, cond}
 use Rattle.std.proofs.Common.{List, [], ◌∷◌, ◌++◌, map, filter, length, refl, sym, ap, subst, ◌∙◌}
-use Rattle.std.specs.List.{AllByRecursion}
+use Rattle.std.proofs.Common.{arith}
+use Rattle.std.proofs.lemmas.Bool.Decides.{nat_tests}
+use Rattle.std.proofs.lemmas.List.Elements.{All-head, All-tail}
+use Rattle.std.specs.List.{All, AllByRecursion}
 use Rattle.acq_message.specs.declared.request_key.RequestKey.{RequestKey}
 use Rattle.acq_message.specs.Elements.{same_key}
 use Rattle.acq_core.specs.declared.request.Request.{Request}
 use Rattle.acq_core.specs.declared.status.Status.{Status}
-use Rattle.acq_core.specs.Tables.{count, is_pending, used_in, with_changed}
+use Rattle.acq_core.specs.Pasts.{HasPast}
+use Rattle.acq_core.specs.Tables.{Tables, count, is_pending, used_in, with_changed}
 use Rattle.acq_core.proofs.Counts.{count-push}
+use Rattle.acq_soundness.specs.Bounds.{IsBoundedRow}
+use Rattle.acq_soundness.proofs.BooksAreSound.{books_are_sound}
 use Rattle.acq_sql.specs.Memos.{WaitsNoOther}
 use Rattle.acq_sql.specs.declared.memo.may_wait.MayWait.{MayWait}
 use Rattle.acq_sql.specs.declared.memo.may_wait.MayWait.TheVariants as may_wait
@@ -140,3 +146,19 @@ used_stays key change admitted days rows day =
     same row =
         elim (same_key row.key key) as (λ b. counts (cond b (change row) row) ≡ counts row)
         [ true ↦ (λ i. admitted row i && (days row i == day)) | false ↦ refl ]
+
+-- on a day after that of each row none counts
+none_later : (today day : ℕ) → today < day → (rows : List Request) → All (IsBoundedRow today) rows
+    → used_in rows day ≡ 0
+none_later today day later [] all = refl
+none_later today day later (row ∷ rows) all =
+    let on = (All-head (IsBoundedRow today) row rows all).day in
+    let other : (row.admitted && (row.day == day)) ≡ false = grind (arith, nat_tests) in
+    subst (λ b. cond b (1 + used_in rows day) (used_in rows day) ≡ 0) (sym other)
+    (none_later today day later rows (All-tail (IsBoundedRow today) row rows all))
+
+-- so it is of tables that events led to, on a day after the business day
+pub none_used_later : (t : Tables) → HasPast t → (day : ℕ) → t.day < day
+    → used_in t.requests day ≡ 0
+none_used_later t (opening, book) day later =
+    none_later t.day day later t.requests (books_are_sound opening t book).numbers.requests

@@ -4,6 +4,7 @@ ghost use Rattle.std.specs.Prelude.{◌≡◌, ◌++◌, ◌∷◌, [], List, Op
 ghost use Rattle.std.specs.Prelude.{true, false};
 ghost use Rattle.acq_core.specs.declared.posting.Posting.{Posting};
 ghost use Rattle.acq_core.specs.declared.request.Request.{Request};
+ghost use Rattle.acq_core.specs.Pasts.{HasPast};
 ghost use Rattle.acq_sql_changes.specs.Changed.{with_posted};
 ghost use Rattle.acq_core.specs.Tables.{Tables, after};
 ghost use Rattle.acq_book.specs.Lookups.{used_on_at, waiting_count_at};
@@ -19,8 +20,8 @@ pub use may_wait::MayWait;
 pub use used_on::UsedOn;
 
 /// What a book recalls of its tables since it looked: its own row, which each event needs, and what
-/// a status needs, so that one that is asked for each second doesn't look at all requests each time.
-/// A change keeps it up to date.
+/// a status needs, so that one that is asked for each second doesn't look at all requests each
+/// time. A change keeps it up to date, a cutover too.
 #[derive(Clone, Copy)]
 pub struct Memo {
     pub(crate) row: Option<(Limit, Day)>,
@@ -42,7 +43,7 @@ impl Memo {
 
     /// What is recalled after a change. Of one that failed it isn't known what it left.
     pub(crate) fn after(self, change: &Change, is_made: bool) -> Memo
-        ensures made { is_made ≡ true → (t : Tables) → Recalls self t
+        ensures made { is_made ≡ true → (t : Tables) → HasPast t → Recalls self t
             → Recalls result (after t change.now) }
         ensures failed { is_made ≡ false → result ≡ nothing_recalled }
     {
@@ -52,7 +53,7 @@ impl Memo {
         Memo {
             row: row_after(self.row, change),
             waiting: self.waiting.after(change),
-            used: used_after(self.used, change),
+            used: used_after(self.used, self.row, change),
         }
     }
 
@@ -155,12 +156,31 @@ fn row_after(row: Option<(Limit, Day)>, change: &Change) -> Option<(Limit, Day)>
     }
 }
 
-/// What is recalled of a day after a change.
-fn used_after(used: Option<UsedOn>, change: &Change) -> Option<UsedOn>
-    ensures { (t : Tables) → CountsUsed used t.requests
+/// What is recalled of a day after a change, over the book's row as it was before.
+fn used_after(used: Option<UsedOn>, row: Option<(Limit, Day)>, change: &Change) -> Option<UsedOn>
+    ensures { (t : Tables) → HasPast t → HasRow row t → CountsUsed used t.requests
         → CountsUsed result (after t change.now).requests }
 {
-    used?.after(change)
+    match change {
+        Change::SetDay(next) => none_used_yet(row, *next),
+        _ => used?.after(change),
+    }
+}
+
+/// What is known of a day that is still to come: none counts on it, since no request is of a later
+/// day than the business day.
+#[tactic(auto, using(crate::proofs::Memos::none_used_later))]
+fn none_used_yet(row: Option<(Limit, Day)>, next: Day) -> Option<UsedOn>
+    ensures { (t : Tables) → HasPast t → HasRow row t → CountsUsed result t.requests }
+{
+    let (_, today) = row?;
+    if next <= today {
+        return None;
+    }
+    Some(UsedOn {
+        day: next,
+        count: 0,
+    })
 }
 
 /// What is recalled of a day with one more request.

@@ -16,7 +16,7 @@ pub struct UsedOn {
 }
 
 impl UsedOn {
-    /// How many count after a change. With the next day it is forgotten.
+    /// How many count after a change.
     #[tactic(auto, using(crate::proofs::Memos::used_stays))]
     pub(crate) fn after(self, change: &Change) -> Option<UsedOn>
         ensures { (t : Tables) → CountsUsed (Some self) t.requests
@@ -26,7 +26,6 @@ impl UsedOn {
             Change::AddRequest(request) => self.with(request),
             Change::Follow { request, .. } => self.with(request),
             Change::Reconciled { request, .. } => self.with(request),
-            Change::SetDay(_) => None,
             _ => Some(self),
         }
     }

@@ -41,7 +41,7 @@ returns-clause-changes g c =
           (changes_at g.S.Store old now c.add_request-made.result
           (Suits (change.AddRequest row)) (with_held (Some row)) made
           (λ began n w. ((leads began n w).0, w.past)) (λ began n w. (leads began n w).1)
-          (λ is. c.with_request-self-inside.ensures.made (c.is_ok.ensures.value ∙ is)
+          (λ is past. c.with_request-self-inside.ensures.made (c.is_ok.ensures.value ∙ is)
           (tables g.S.Store old) None) refl);
       was_honest = λ clean. let up = made.stop.clean in omega (arith, up, clean);
       rise = c.told_apart.ensures.rise;

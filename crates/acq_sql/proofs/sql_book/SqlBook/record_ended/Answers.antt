@@ -40,7 +40,7 @@ returns g c =
           (changes_at g.S.Store old now c.add_ended-made.result
           (SuitsPosted row posting) (with_posted row posting) made
           (λ began n w. (leads began n w).0) (λ began n w. (leads began n w).1)
-          (λ is. c.with_request-self-inside.ensures.made (c.is_ok.ensures.value ∙ is)
+          (λ is past. c.with_request-self-inside.ensures.made (c.is_ok.ensures.value ∙ is)
           (tables g.S.Store old) posting) refl);
       was_honest = λ clean. let up = made.stop.clean in omega (arith, up, clean);
       rise = c.counted.ensures.rise;
