@@ -27,7 +27,8 @@ module _ {S : Type 0} (book : Ghosts S) (first : S) where
   took_next now next events at event within is so_far made =
       record {
         was_honest = λ h. so_far.was_honest (made.was_honest h);
-        stays_open = λ h began. made.stays_open refl h (so_far.stays_open (made.was_honest h) began);
+        stays_open = λ h began.
+            made.stays_open refl h (so_far.stays_open (made.was_honest h) began);
         tables = λ h began.
             let was = made.was_honest h in
             let opened = so_far.stays_open was began in

@@ -181,16 +181,21 @@ module _ (form : Form) (db : Trees) (sound : IsSound (book_schema form) db) wher
       (db ranges_tree) (sound.obeys.rules Datatype).1.1.1.0 (sound.obeys.rules NotNull).1.1.1.0
   are_told Requests =
       all_both _ _ _ (each_told (book_schema form) db (at_tree (requests form) requests_tree) refl)
-      (db requests_tree) (sound.obeys.rules Datatype).1.1.1.1.0 (sound.obeys.rules NotNull).1.1.1.1.0
+      (db requests_tree) (sound.obeys.rules Datatype).1.1.1.1.0
+      (sound.obeys.rules NotNull).1.1.1.1.0
   are_told Postings =
       all_both _ _ _ (each_told (book_schema form) db (at_tree (postings form) postings_tree) refl)
-      (db postings_tree) (sound.obeys.rules Datatype).1.1.1.1.1.0 (sound.obeys.rules NotNull).1.1.1.1.1.0
+      (db postings_tree) (sound.obeys.rules Datatype).1.1.1.1.1.0
+      (sound.obeys.rules NotNull).1.1.1.1.1.0
   are_told Reconciliations =
-      all_both _ _ _ (each_told (book_schema form) db (at_tree (reconciliations form) reconciliations_tree) refl)
-      (db reconciliations_tree) (sound.obeys.rules Datatype).1.1.1.1.1.1.0 (sound.obeys.rules NotNull).1.1.1.1.1.1.0
+      all_both _ _ _
+      (each_told (book_schema form) db (at_tree (reconciliations form) reconciliations_tree) refl)
+      (db reconciliations_tree) (sound.obeys.rules Datatype).1.1.1.1.1.1.0
+      (sound.obeys.rules NotNull).1.1.1.1.1.1.0
   are_told Running =
       all_both _ _ _ (each_told (book_schema form) db (at_tree running running_tree) refl)
-      (db running_tree) (sound.obeys.rules Datatype).1.1.1.1.1.1.1.0 (sound.obeys.rules NotNull).1.1.1.1.1.1.1.0
+      (db running_tree) (sound.obeys.rules Datatype).1.1.1.1.1.1.1.0
+      (sound.obeys.rules NotNull).1.1.1.1.1.1.1.0
 
 each_back : (table : Table) (rows : List Row)
     → AllByRecursion (λ row. whole_of table (cells_of table row) ≡ row) rows

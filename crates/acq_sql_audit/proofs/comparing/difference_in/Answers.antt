@@ -76,7 +76,8 @@ returns-in_err-advance-clause-looks_at_made g c plain =
 
 pub returns-in_err-advance-2-clause-looks : goal.returns-in_err-advance-2-clause-looks
 returns-in_err-advance-2-clause-looks g c plain =
-    let here = looks_in_vain (looks_further c.loop-row.invariant.2.2 c.advance.new.self.conn.now c.advance.ensures.survives
+    let here = looks_in_vain
+    (looks_further c.loop-row.invariant.2.2 c.advance.new.self.conn.now c.advance.ensures.survives
     c.advance.ensures.mode
     (row_if c.advance.new.self.has_row c.advance.new.self.conn.now)
     (λ clean. rw c.in_ok-advance.was at (c.advance.ensures.ok clean))
@@ -101,7 +102,8 @@ returns-in-End-clause-tells g c clean pure plain =
     let late : HasCleanDisk (state g.S.Store c.advance.new.self.conn.now) = search rules in
     let also : HasCleanDisk (state g.M.Store c.advance-in-loop-row.new.self.conn.now) =
     search rules in
-    let theirs = follows c.loop-row.invariant.2.2 c.advance.new.self.conn.now c.advance.ensures.survives
+    let theirs = follows c.loop-row.invariant.2.2 c.advance.new.self.conn.now
+    c.advance.ensures.survives
     c.advance.ensures.mode
     (row_if c.advance.new.self.has_row c.advance.new.self.conn.now)
     (λ clean. rw c.in_ok-advance.was at (c.advance.ensures.ok clean))
@@ -120,7 +122,8 @@ returns-in-End-clause-tells g c clean pure plain =
 
 pub returns-in-End-clause-looks : goal.returns-in-End-clause-looks
 returns-in-End-clause-looks g c plain =
-    let here = looks_further c.loop-row.invariant.2.2 c.advance.new.self.conn.now c.advance.ensures.survives
+    let here = looks_further c.loop-row.invariant.2.2 c.advance.new.self.conn.now
+    c.advance.ensures.survives
     c.advance.ensures.mode
     (row_if c.advance.new.self.has_row c.advance.new.self.conn.now)
     (λ clean. rw c.in_ok-advance.was at (c.advance.ensures.ok clean))
@@ -143,7 +146,8 @@ returns-in-Differ-clause-tells g c clean pure plain =
     let late : HasCleanDisk (state g.S.Store c.advance.new.self.conn.now) = search rules in
     let also : HasCleanDisk (state g.M.Store c.advance-in-loop-row.new.self.conn.now) =
     search rules in
-    let theirs = follows c.loop-row.invariant.2.2 c.advance.new.self.conn.now c.advance.ensures.survives
+    let theirs = follows c.loop-row.invariant.2.2 c.advance.new.self.conn.now
+    c.advance.ensures.survives
     c.advance.ensures.mode
     (row_if c.advance.new.self.has_row c.advance.new.self.conn.now)
     (λ clean. rw c.in_ok-advance.was at (c.advance.ensures.ok clean))
@@ -167,7 +171,8 @@ returns-in-Differ-clause-tells g c clean pure plain =
 
 pub returns-in-Differ-clause-looks : goal.returns-in-Differ-clause-looks
 returns-in-Differ-clause-looks g c plain =
-    let here = looks_further c.loop-row.invariant.2.2 c.advance.new.self.conn.now c.advance.ensures.survives
+    let here = looks_further c.loop-row.invariant.2.2 c.advance.new.self.conn.now
+    c.advance.ensures.survives
     c.advance.ensures.mode
     (row_if c.advance.new.self.has_row c.advance.new.self.conn.now)
     (λ clean. rw c.in_ok-advance.was at (c.advance.ensures.ok clean))
