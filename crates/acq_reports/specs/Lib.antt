@@ -7,4 +7,5 @@ pub mod Pieces
 pub mod Writing
 pub mod Naming
 pub mod DaySums
+pub mod Slices
 pub mod Worked

@@ -8,8 +8,12 @@
 //! gathers the lines, writes them in pieces of 64 KiB and tells how far they went out, and makes
 //! its lines by [`record_text`]; what reports on a day calls [`check_day`] and [`check_sums`]
 //! first.
+//!
+//! A [`DayComparison`] compares them slice by slice, while events are taken between the slices, for
+//! [`settlement_once_compared`]. What goes over rows so goes over [`SLICE`] of them at a time.
 #![tactic(auto)]
 
+mod day_comparison;
 mod hold_ends;
 mod holds;
 pub mod laws;
@@ -24,9 +28,12 @@ mod refusals;
 mod report;
 mod report_fault;
 mod settlement_report;
+mod slices;
 mod stop;
+mod summed_merchant;
 mod sums;
 
+pub use day_comparison::DayComparison;
 pub use hold_ends::hold_end_text;
 pub use holds::open_holds;
 pub use names::merchant_names;
@@ -35,5 +42,6 @@ pub use records::{content_bytes, record_text, reference_text};
 pub use refusals::{check_day, check_merchant};
 pub use report::Report;
 pub use report_fault::ReportFault;
-pub use settlement_report::{settlement, state_word};
+pub use settlement_report::{settlement, settlement_once_compared, state_word};
+pub use slices::{SLICE, goes_on};
 pub use sums::check_sums;

@@ -1,7 +1,7 @@
 //! Settlement reports.
 
 ghost use Rattle.std.specs.Prelude.{◌≡◌, ◌+◌, ◌++◌, ℕ, List, is_ok, codes};
-ghost use Rattle.std.specs.Prelude.{IfOk, OnOk, OnErr};
+ghost use Rattle.std.specs.Prelude.{IfOk, None, OnOk, OnErr};
 ghost use Rattle.std.specs.Fmt.{decimal};
 ghost use Rattle.std.specs.List.{flat_map};
 ghost use Rattle.acq_book.specs.Calls.{Looks};
@@ -58,6 +58,31 @@ pub fn settlement<B: Book, K: Sink>(
     check_day(book, day)?;
     let names = merchant_names(alloc, book)?;
     check_sums(alloc, book, day, names.as_slice())?;
+    write_report(alloc, book, day, names.as_slice(), writer)
+}
+
+/// Writes the settlement report of a day that is over and whose postings were compared with its
+/// totals, as a [`DayComparison`] does it slice by slice: the text of [`settlement`], of the totals
+/// alone.
+///
+/// `Write` tells how many bytes of it went out; with `Memory` and `Store` a beginning of it may
+/// have. No other fault comes.
+///
+/// [`DayComparison`]: crate::DayComparison
+#[tactic(auto, using(crate::proofs::Chains::looks_more))]
+pub fn settlement_once_compared<B: Book, K: Sink>(
+    alloc: Global,
+    book: &mut B,
+    day: Day,
+    writer: &mut K,
+) -> Result<(), ReportFault>
+    ensures text { B.is_honest book.new → B.is_open book.old → Reports None
+        (settlement_text (B.tables book.old) day) (K.sent writer.old) (K.sent writer.new) result }
+    ensures writes { K.failures writer.new ≡ K.failures writer.old + failed_writes result }
+    ensures looks { Looks B.Book book.old book.new (is_settled result) }
+    ensures store { CountsStore result (B.failures book.old) (B.failures book.new) }
+{
+    let names = merchant_names(alloc, book)?;
     write_report(alloc, book, day, names.as_slice(), writer)
 }
 

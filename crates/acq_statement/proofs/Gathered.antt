@@ -1,7 +1,7 @@
 -- A statement that is gathered on, and its text.
-use Rattle.std.proofs.Common.{◌≡◌, ◌∙◌, ◌⊎◌, ◌&&◌, ◌+◌, ◌-◌, ◌≤◌, ◌∷◌, ◌++◌, ℕ, zero, suc, Bool, true, false}
-use Rattle.std.proofs.Common.{cond, List, [], Option, Some, None, inl, inr, refl, sym, ap, subst}
-use Rattle.std.proofs.Common.{arith, append-nil, drop, filter, length, take}
+use Rattle.std.proofs.Common.{◌≡◌, ◌∙◌, ◌⊎◌, ◌&&◌, ◌+◌, ◌-◌, ◌≤◌, ◌∷◌, ◌++◌, ℕ, zero, suc, Bool}
+use Rattle.std.proofs.Common.{true, false, cond, List, [], Option, Some, None, inl, inr, refl, sym}
+use Rattle.std.proofs.Common.{ap, subst, arith, append-nil, drop, filter, length, take}
 use Rattle.std.specs.Prelude.{IfSome, flat_map, nat_le, nat_lt}
 use Rattle.std.specs.List.{AllByRecursion, cons_option, filter_map, range_with_len}
 use Rattle.std.specs.Str.{bytes_eq}

@@ -15,7 +15,7 @@ use Rattle.acq_statement.specs.declared.days.Days.{Days}
 use Rattle.acq_statement.specs.declared.terminals.Terminals.{Terminals}
 use Rattle.acq_statement.specs.Claims.{claim_in}
 use Rattle.acq_statement.specs.ClaimRows.{ClaimsOne}
-use Rattle.acq_statement.specs.Slices.{goes_on}
+use Rattle.acq_reports.specs.Slices.{goes_on}
 use Rattle.acq_statement.specs.TerminalRows.{KeepsTerminal}
 use Rattle.acq_statement.proofs.Slicing as slices
 

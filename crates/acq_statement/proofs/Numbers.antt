@@ -1,7 +1,8 @@
 -- A merchant's postings of a day: their numbers rise as they come.
-use Rattle.std.proofs.Common.{◌≡◌, ◌==◌, ◌&&◌, ◌+◌, ◌≤◌, ◌<◌, ◌∙◌, ◌∷◌, ◌++◌, ℕ, Bool, true, false, cond}
-use Rattle.std.proofs.Common.{List, [], Ordering, Less, Equal, Greater, Option, None, Some, refl, sym}
-use Rattle.std.proofs.Common.{ap, ap₂, subst, true≢false, filter, append-nil, append_assoc, arith}
+use Rattle.std.proofs.Common.{◌≡◌, ◌==◌, ◌&&◌, ◌+◌, ◌≤◌, ◌<◌, ◌∙◌, ◌∷◌, ◌++◌, ℕ, Bool, true, false}
+use Rattle.std.proofs.Common.{cond, List, [], Ordering, Less, Equal, Greater, Option, None, Some}
+use Rattle.std.proofs.Common.{refl, sym, ap, ap₂, subst, true≢false, filter, append-nil}
+use Rattle.std.proofs.Common.{append_assoc, arith}
 use Rattle.std.specs.Prelude.{◌||◌, nat_le, nat_lt}
 use Rattle.std.specs.Cmp.Lexicographic.{slice_cmp}
 use Rattle.std.specs.List.{AllByRecursion}

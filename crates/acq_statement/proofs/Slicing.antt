@@ -3,7 +3,7 @@ use Rattle.std.proofs.Common.{◌≡◌, ◌∙◌, ◌⊎◌, ◌++◌, ◌∷�
 use Rattle.std.proofs.Common.{None, inl, inr, refl, sym, ap, subst, true≢false, append-nil}
 use Rattle.std.proofs.Common.{append_assoc, arith, length}
 use Rattle.acq_book.specs.Visits.{SawAll}
-use Rattle.acq_statement.specs.Slices.{goes_on}
+use Rattle.acq_reports.specs.Slices.{goes_on}
 
 -- `Holds` says what a visitor has of the rows that it saw, and `one` what a row makes of that
 module _ {V Row : Type 0} (sees : V → Row → Bool → V → Type 0) (place : V → ℕ)

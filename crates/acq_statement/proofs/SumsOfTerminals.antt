@@ -10,7 +10,7 @@ use Rattle.acq_book.specs.Visits.{SawAll}
 use Rattle.acq_statement.specs.declared.posted_sums.PostedSums.{PostedSums}
 use Rattle.acq_statement.specs.declared.terminal_sums.TerminalSums.{TerminalSums}
 use Rattle.acq_statement.specs.Gathered.{sums_in}
-use Rattle.acq_statement.specs.Slices.{goes_on}
+use Rattle.acq_reports.specs.Slices.{goes_on}
 use Rattle.acq_statement.specs.Sums.{capped_posting}
 use Rattle.acq_statement.specs.TerminalRows.{SumsOne}
 use Rattle.acq_statement.specs.TerminalTotals.{sums_at_terminal, with_posting}
@@ -46,7 +46,8 @@ pub has_push : (id : List ℕ) (xs : List TerminalSums) →
 has_push id [] = ap (λ b. b || false) (bytes_eq_itself id)
 has_push id (x ∷ xs) = at (bytes_eq x.id id) (has_push id xs)
   where
-    at : (b : Bool) → list_any (λ at. bytes_eq at.id id) (xs ++ sums_at_terminal [] id ∷ []) ≡ true →
+    at : (b : Bool) →
+        list_any (λ at. bytes_eq at.id id) (xs ++ sums_at_terminal [] id ∷ []) ≡ true →
         (b || list_any (λ at. bytes_eq at.id id) (xs ++ sums_at_terminal [] id ∷ [])) ≡ true
     at true rest = refl
     at false rest = rest

@@ -4,7 +4,7 @@ use Rattle.std.specs.List.{cons_option}
 use Rattle.acq_core.specs.declared.request.Request.{Request}
 use Rattle.acq_statement.specs.declared.claims.Claims.{Claims}
 use Rattle.acq_statement.specs.Claims.{claim_in}
-use Rattle.acq_statement.specs.Slices.{goes_on}
+use Rattle.acq_reports.specs.Slices.{goes_on}
 
 -- it has the claim of the request besides, if there is one that is asked for, and goes on to its
 -- end; or memory ran out

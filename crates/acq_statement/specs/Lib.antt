@@ -14,7 +14,6 @@ pub mod TerminalTotals
 pub mod LegTexts
 pub mod Lines
 pub mod Statement
-pub mod Slices
 pub mod Gathered
 pub mod ClaimRows
 pub mod TerminalRows

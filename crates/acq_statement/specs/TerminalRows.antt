@@ -6,7 +6,7 @@ use Rattle.acq_statement.specs.declared.posted_sums.PostedSums.{PostedSums}
 use Rattle.acq_statement.specs.declared.terminals.Terminals.{Terminals}
 use Rattle.acq_statement.specs.declared.terminal_sums.AtTerminals.{AtTerminals}
 use Rattle.acq_statement.specs.Gathered.{sums_in}
-use Rattle.acq_statement.specs.Slices.{goes_on}
+use Rattle.acq_reports.specs.Slices.{goes_on}
 use Rattle.acq_statement.specs.TerminalTotals.{with_posting}
 
 -- it has one terminal more, or memory ran out

@@ -7,9 +7,9 @@ ghost use Rattle.acq_statement.specs.Claims.{claims_at, claims_of, claims_on};
 
 use crate::asked::Asked;
 use crate::claim::Claim;
-use crate::slices::goes_on;
 use acq_book::{Book, BookFault, Visit};
 use acq_core::{MerchantId, Request};
+use acq_reports::goes_on;
 use day_totals::Day;
 use std::alloc::{AllocError, Global};
 

@@ -18,7 +18,6 @@ use crate::claims::Claims;
 use crate::currency_lines::CurrencyLines;
 use crate::days::Days;
 use crate::posted_sums::{PostedSums, sums_of_terminals};
-use crate::slices::goes_on;
 use crate::statement::write_blocks;
 use crate::statement_blocks::SummedBlock;
 use crate::statement_form::StatementForm;
@@ -27,13 +26,9 @@ use crate::terminals::all_terminals;
 use acq_book::{Book, BookFault};
 use acq_core::MerchantId;
 use acq_link::{MemorySink, Sink};
-use acq_reports::ReportFault;
+use acq_reports::{ReportFault, SLICE, goes_on};
 use day_totals::Day;
 use std::alloc::Global;
-
-/// So many rows are gone over at a time: a walk's query has read 2, 8 and 64 rows by then, and would
-/// read 512 next.
-const SLICE: u64 = 74;
 
 /// A statement of a merchant's day, which goes over a book's postings of that day and over its
 /// requests slice by slice, while events are taken between the slices.

@@ -7,10 +7,10 @@ ghost use Rattle.std.specs.Str.{bytes_eq};
 ghost use Rattle.acq_statement.specs.Gathered.{sums_in};
 ghost use Rattle.acq_statement.specs.TerminalTotals.{with_posting};
 
-use crate::slices::goes_on;
 use crate::terminal_sums::{TerminalSums, add_posting, idle};
 use acq_book::Visit;
 use acq_core::{Posting, Terminal, TerminalId};
+use acq_reports::goes_on;
 use std::alloc::{AllocError, Global};
 
 /// The sums of the postings that were handed over, up to a row, by the terminals that posted.

@@ -1,6 +1,6 @@
 //! Settlement reports as CSV.
 
-ghost use Rattle.std.specs.Prelude.{◌≡◌, ◌+◌, ◌++◌, ◌∷◌, [], IfOk, flat_map, is_ok};
+ghost use Rattle.std.specs.Prelude.{◌≡◌, ◌+◌, ◌++◌, ◌∷◌, [], IfOk, None, flat_map, is_ok};
 ghost use Rattle.acq_book.specs.Calls.{Looks};
 ghost use Rattle.acq_reports.specs.Faults.{CountsStore, TellsStore, failed_writes, is_settled};
 ghost use Rattle.acq_reports.specs.Refusals.{day_refusal};
@@ -61,6 +61,29 @@ pub fn write_report_csv<B: Book, K: Sink>(
         Err(AllocError) => return Err(ReportFault::Memory),
     };
     check_sums(alloc, book, day, names.as_slice())?;
+    write_records(alloc, book, day, merchants.as_slice(), writer)
+}
+
+/// Writes the settlement report of a day that is over and whose postings were compared with its
+/// totals, as a `DayComparison` does it slice by slice, as CSV: the text of [`write_report_csv`],
+/// of the totals alone.
+///
+/// `Write` tells how many bytes of it went out; with `Memory` and `Store` a beginning of it may
+/// have. No other fault comes.
+#[tactic(auto, using(crate::proofs::Chains::looks_more))]
+pub fn report_csv_once_compared<B: Book, K: Sink>(
+    alloc: Global,
+    book: &mut B,
+    day: Day,
+    writer: &mut K,
+) -> Result<(), ReportFault>
+    ensures text { B.is_honest book.new → B.is_open book.old → Reports None
+        (report_csv (B.tables book.old) day) (K.sent writer.old) (K.sent writer.new) result }
+    ensures writes { K.failures writer.new ≡ K.failures writer.old + failed_writes result }
+    ensures looks { Looks B.Book book.old book.new (is_settled result) }
+    ensures store { CountsStore result (B.failures book.old) (B.failures book.new) }
+{
+    let merchants = enrolled_merchants(alloc, book)?;
     write_records(alloc, book, day, merchants.as_slice(), writer)
 }
 

@@ -5,3 +5,7 @@ use Rattle.std.specs.Prelude.{ℕ, nat_lt, Bool, true, Option, Some, None}
 abbrev pub goes_on : Option ℕ → ℕ → Bool
 goes_on None rows = true
 goes_on (Some end) rows = nat_lt rows end
+
+-- a visitor of whom nothing is said
+abbrev pub Whatever : {V Row : Type 0} → V → Row → Bool → V → Type 0
+Whatever old row more new = Unit {0}
