@@ -1,7 +1,7 @@
 -- A request that is found has its references among those of the requests that are asked for.
-use Rattle.std.proofs.Common.{◌≡◌, ◌∙◌, ◌⊎◌, ◌++◌, ◌∷◌, ◌==◌, ℕ, Bool, true, false, List, [], Option}
-use Rattle.std.proofs.Common.{Some, None, cond, inl, inr, refl, sym, ap, subst, arith, filter}
-use Rattle.std.proofs.Common.{true≢false}
+use Rattle.std.proofs.Common.{◌≡◌, ◌∙◌, ◌⊎◌, ◌++◌, ◌∷◌, ◌==◌, ℕ, Bool, true, false, List, []}
+use Rattle.std.proofs.Common.{Option, Some, None, cond, inl, inr, refl, sym, ap, subst, arith}
+use Rattle.std.proofs.Common.{filter, true≢false}
 use Rattle.std.specs.Prelude.{◌||◌, IfSome, flat_map}
 use Rattle.std.specs.List.{AllByRecursion, list_any}
 use Rattle.std.specs.Str.{bytes_eq}
@@ -15,8 +15,8 @@ use Rattle.acq_core.specs.Changes.{admitted_row, answered_hold_end, answered_sta
 use Rattle.acq_core.specs.Changes.{completion_row, reconciliation_row, refused_row}
 use Rattle.acq_core.specs.Changes.{remains_of, remains_of_hold, reversal_row}
 use Rattle.acq_core.specs.Pasts.{HasPast}
-use Rattle.acq_core.specs.Tables.{Tables, after_any, answered_row, followed_row, known_in, new_tables}
-use Rattle.acq_core.specs.Tables.{prior_of, requests_of, step_tables, with_changed}
+use Rattle.acq_core.specs.Tables.{Tables, after_any, answered_row, followed_row, known_in}
+use Rattle.acq_core.specs.Tables.{new_tables, prior_of, requests_of, step_tables, with_changed}
 use Rattle.acq_soundness.proofs.Keys.{bytes_eq_is}
 use Rattle.acq_soundness.proofs.Members.{In, In-filtered}
 use Rattle.acq_soundness.proofs.Runs.{kept}
@@ -67,7 +67,8 @@ after_step t a all =
       refused = λ r merchant g given is.
           single_push rows (refused_row today r given) all (inl refl);
       admitted = λ r merchant g range is.
-          single_push rows (admitted_row today r range (next_reference t r merchant)) all (inr refl);
+          single_push rows (admitted_row today r range (next_reference t r merchant)) all
+          (inr refl);
       completed = λ r merchant g hold is.
           let changed = followed_row (remains_of_hold (prior_of hold)) in
           single_push (with_changed hold.key changed rows) (completion_row today r (prior_of hold))
@@ -166,7 +167,8 @@ by_one : (references : List ℕ) (own followed : Option ℕ) → (own ≡ None) 
     (is_one_of references own || is_one_of references followed) ≡ true →
     IfSome own (λ n. Has references n) × IfSome followed (λ n. Has references n)
 by_one references None None single is = absurd (true≢false (sym is))
-by_one references (Some n) None single is = (only (list_any (λ other. other == n) references) is, tt)
+by_one references (Some n) None single is =
+    (only (list_any (λ other. other == n) references) is, tt)
   where
     only : (b : Bool) → (b || false) ≡ true → b ≡ true
     only true h = refl

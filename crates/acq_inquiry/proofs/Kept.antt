@@ -1,7 +1,7 @@
 -- What a search keeps of postings.
 use Rattle.std.proofs.Common.{◌≡◌, ◌∙◌, ◌⊎◌, ◌++◌, ◌∷◌, ◌+◌, ◌==◌, ◌≤◌, ℕ, Bool, true, false, List}
-use Rattle.std.proofs.Common.{[], Option, Some, None, cond, inl, inr, refl, sym, ap, ap₂, subst, arith}
-use Rattle.std.proofs.Common.{append_assoc, append-nil, filter, true≢false}
+use Rattle.std.proofs.Common.{[], Option, Some, None, cond, inl, inr, refl, sym, ap, ap₂, subst}
+use Rattle.std.proofs.Common.{arith, append_assoc, append-nil, filter, true≢false}
 use Rattle.std.specs.Prelude.{◌&&◌, ◌||◌, IfSome, find, flat_map}
 use Rattle.std.specs.List.{All, list_any}
 use Rattle.std.specs.Str.{bytes_eq}
@@ -18,7 +18,7 @@ use Rattle.acq_core.specs.Tables.{Tables, count}
 use Rattle.acq_book.specs.Lookups.{postings_above_at}
 use Rattle.acq_book.specs.Visits.{SawAll}
 use Rattle.acq_statement.specs.Gathered.{is_of_day, postings_up_to}
-use Rattle.acq_statement.specs.Slices.{goes_on}
+use Rattle.acq_reports.specs.Slices.{goes_on}
 use Rattle.acq_statement.proofs.Numbers as numbers
 use Rattle.acq_statement.proofs.Slicing as slices
 use Rattle.acq_statement.proofs.SumsOfTerminals.{last_number}

@@ -6,3 +6,4 @@ pub mod Later
 pub mod Kept
 pub mod Among
 pub mod Searched
+pub mod Enough

@@ -2,7 +2,7 @@
 use Rattle.std.proofs.Common.{◌≡◌, ◌∙◌, ◌⊎◌, ◌++◌, ◌∷◌, ◌+◌, ◌≤◌, ℕ, zero, suc, Bool, true, false}
 use Rattle.std.proofs.Common.{List, [], cond, inl, inr, refl, sym, ap, ap₂, subst, true≢false}
 use Rattle.std.proofs.Common.{append-nil, append_assoc, arith, length, take, drop}
-use Rattle.std.specs.Prelude.{◌&&◌, filter, flat_map, None, Option}
+use Rattle.std.specs.Prelude.{◌&&◌, filter, flat_map, nat_lt, None, Some, Option}
 use Rattle.std.specs.List.{All}
 use Rattle.std.specs.Str.{bytes_eq}
 use Rattle.std.proofs.Math.Seq.{take-add}
@@ -19,10 +19,10 @@ use Rattle.acq_inquiry.specs.declared.posted_day.PostedDay.{PostedDay}
 use Rattle.acq_inquiry.specs.declared.rows_at.Copying.{Copying}
 use Rattle.acq_inquiry.specs.declared.search.Search.{Search}
 use Rattle.acq_inquiry.specs.declared.seeing.Seeing.{Seeing}
-use Rattle.acq_statement.specs.Slices.{goes_on}
+use Rattle.acq_reports.specs.Slices.{goes_on}
 use Rattle.acq_inquiry.specs.Gathering.{Copies, LooksAt, Sees, place_if, references_if, row_if}
 use Rattle.acq_inquiry.specs.Inquiries.{found_at, is_asked, is_found, references_of, related_by}
-use Rattle.acq_inquiry.specs.InquiryTexts.{inquiry_text, is_more, many_line, request_text}
+use Rattle.acq_inquiry.specs.InquiryTexts.{inquiry_text, many_line, request_text}
 use Rattle.acq_inquiry.specs.InquiryTexts.{text_of_told}
 use Rattle.acq_inquiry.specs.KeptPostings.{IsKept, KeepsDays, text_with, told_with}
 use Rattle.acq_inquiry.specs.RequestLines.{request_lines}
@@ -338,14 +338,29 @@ take_whole (suc n) [] is = absurd (omega (arith, is))
 take_whole zero (x ∷ xs) is = absurd (omega (arith, is))
 take_whole (suc n) (x ∷ xs) is = ap (λ l. x ∷ l) (take_whole n xs (omega (arith, is)))
 
--- a search that has gone over all rows has the references of those that are asked for
+-- the references of all requests that are asked for
+pub related_whole : (t : Tables) (m : List ℕ) (inquiry : Inquiry) →
+    flat_map (references_if m inquiry) t.requests ≡ related_by inquiry (requests_of m t.requests)
+related_whole t m inquiry =
+    given_twice (λ row. bytes_eq row.key.merchant m) (is_asked inquiry) references_of t.requests
+
+-- the requests that are found by these
+pub rows_among : (t : Tables) (m : List ℕ) (inquiry : Inquiry) (references : List ℕ) →
+    references ≡ related_by inquiry (requests_of m t.requests) →
+    flat_map (row_if m inquiry references) t.requests ≡ found_at t m inquiry
+rows_among t m inquiry references are =
+    given_twice (λ row. bytes_eq row.key.merchant m) (is_found inquiry references)
+    (λ row. row ∷ []) t.requests
+    ∙ each_alone (filter (is_found inquiry references) (requests_of m t.requests))
+    ∙ ap (λ r. filter (is_found inquiry r) (requests_of m t.requests)) are
+
+-- a search that has gone over all rows has them
 references_whole : (t : Tables) (s : Search) → IsWhole t s →
     s.references.items ≡ related_by s.inquiry (requests_of s.merchant t.requests)
 references_whole t s is =
     is.searched.references
     ∙ ap (flat_map (references_if s.merchant s.inquiry)) (take_whole s.seen t.requests is.seen)
-    ∙ given_twice (λ row. bytes_eq row.key.merchant s.merchant) (is_asked s.inquiry)
-    references_of t.requests
+    ∙ related_whole t s.merchant s.inquiry
 
 places_are : (t : Tables) (s : Search) → IsWhole t s →
     s.places.items
@@ -359,12 +374,7 @@ rows_are : (t : Tables) (s : Search) → IsWhole t s →
     flat_map (row_if s.merchant s.inquiry s.references.items) t.requests
     ≡ found_at t s.merchant s.inquiry
 rows_are t s is =
-    given_twice (λ row. bytes_eq row.key.merchant s.merchant)
-    (is_found s.inquiry s.references.items) (λ row. row ∷ []) t.requests
-    ∙ each_alone (filter (is_found s.inquiry s.references.items)
-    (requests_of s.merchant t.requests))
-    ∙ ap (λ r. filter (is_found s.inquiry r) (requests_of s.merchant t.requests))
-    (references_whole t s is)
+    rows_among t s.merchant s.inquiry s.references.items (references_whole t s is)
 
 -- the rows at its places are those that are found
 pub whole_found : (t : Tables) (s : Search) → IsWhole t s →
@@ -375,7 +385,7 @@ whole_found t s is =
     ∙ rows_are t s is
 
 -- and it has as many places
-as_many : (merchant : List ℕ) (inquiry : Inquiry) (references : List ℕ) (place : ℕ)
+pub as_many : (merchant : List ℕ) (inquiry : Inquiry) (references : List ℕ) (place : ℕ)
     (rows : List Request) →
     length (given_from (place_if merchant inquiry references) place rows)
     ≡ length (flat_map (row_if merchant inquiry references) rows)
@@ -404,10 +414,10 @@ whole_many t s is =
 
 -- ---- their text
 
-text_is : (t : Tables) → HasPast t → (s : Search) → IsWhole t s → (row : Request) →
+request_text_is : (t : Tables) → HasPast t → (s : Search) → IsWhole t s → (row : Request) →
     In row (found_at t s.merchant s.inquiry) → text_with s.days.items t row ≡ request_text t row
 unfolding request_text
-text_is t past s is row member =
+request_text_is t past s is row member =
     let among = all_among t past s.merchant s.inquiry row member in
     ap (λ xs. request_lines row ++ xs)
     (lines_are t past s.references.items s.days.items row
@@ -434,22 +444,19 @@ pub told_is : (t : Tables) → HasPast t → (s : Search) → IsWhole t s →
     ≡ text_of_told t (found_at t s.merchant s.inquiry)
 told_is t past s is =
     ap (told_with s.days.items t) (whole_found t s is)
-    ∙ told_alike s.days.items t (found_at t s.merchant s.inquiry) (text_is t past s is)
+    ∙ told_alike s.days.items t (found_at t s.merchant s.inquiry) (request_text_is t past s is)
 
--- how many there are, or what became of them
-pub many_is : (t : Tables) (s : Search) → IsWhole t s → (most : Option ℕ) →
-    is_more most (length s.places.items) ≡ true →
-    many_line (length s.places.items) ≡ inquiry_text t s.merchant s.inquiry most
-many_is t s is most more =
-    let found = found_at t s.merchant s.inquiry in
-    ap many_line (whole_many t s is)
-    ∙ sym (ap (λ b. cond b (many_line (length found)) (text_of_told t found))
-    (sym (ap (is_more most) (whole_many t s is)) ∙ more))
+-- that there are more than so many, or what became of them
+module _ (t : Tables) (m : List ℕ) (inquiry : Inquiry) (most : ℕ) where
+  abbrev all_found : List Request
+  all_found = found_at t m inquiry
 
-pub few_is : (t : Tables) (s : Search) → IsWhole t s → (most : Option ℕ) →
-    is_more most (length s.places.items) ≡ false →
-    text_of_told t (found_at t s.merchant s.inquiry) ≡ inquiry_text t s.merchant s.inquiry most
-few_is t s is most few =
-    let found = found_at t s.merchant s.inquiry in
-    sym (ap (λ b. cond b (many_line (length found)) (text_of_told t found))
-    (sym (ap (is_more most) (whole_many t s is)) ∙ few))
+  pub many_is : nat_lt most (length all_found) ≡ true →
+      many_line most ≡ inquiry_text t m inquiry (Some most)
+  many_is more =
+      sym (ap (λ b. cond b (many_line most) (text_of_told t all_found)) more)
+
+  pub few_is : nat_lt most (length all_found) ≡ false →
+      text_of_told t all_found ≡ inquiry_text t m inquiry (Some most)
+  few_is few =
+      sym (ap (λ b. cond b (many_line most) (text_of_told t all_found)) few)

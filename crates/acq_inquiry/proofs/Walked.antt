@@ -1,11 +1,11 @@
 -- Walks that end with a row, or with the last.
-use Rattle.std.proofs.Common.{◌≡◌, ◌∙◌, ◌⊎◌, ◌++◌, ◌∷◌, ◌+◌, ◌≤◌, ℕ, suc, Bool, true, false, List, []}
-use Rattle.std.proofs.Common.{inl, inr, refl, sym, ap, subst, true≢false, append-nil, append_assoc}
-use Rattle.std.proofs.Common.{length, take, arith}
+use Rattle.std.proofs.Common.{◌≡◌, ◌∙◌, ◌⊎◌, ◌++◌, ◌∷◌, ◌+◌, ◌≤◌, ℕ, suc, Bool, true, false, List}
+use Rattle.std.proofs.Common.{[], inl, inr, refl, sym, ap, subst, true≢false, append-nil}
+use Rattle.std.proofs.Common.{append_assoc, length, take, arith}
 use Rattle.std.specs.Prelude.{Option, None}
 use Rattle.acq_core.specs.declared.request.Request.{Request}
 use Rattle.acq_book.specs.Visits.{SawAll}
-use Rattle.acq_statement.specs.Slices.{goes_on}
+use Rattle.acq_reports.specs.Slices.{goes_on}
 use Rattle.acq_inquiry.specs.Searching.{given_from}
 
 -- `items` is what a visitor gathered, `gives` what a row at a place adds, and `one` says what a row

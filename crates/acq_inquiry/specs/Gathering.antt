@@ -6,7 +6,7 @@ use Rattle.std.specs.Str.{bytes_eq}
 use Rattle.acq_core.specs.declared.posting.Posting.{Posting}
 use Rattle.acq_core.specs.declared.request.Request.{Request}
 use Rattle.acq_inquiry.specs.declared.inquiry.Inquiry.{Inquiry}
-use Rattle.acq_statement.specs.Slices.{goes_on}
+use Rattle.acq_reports.specs.Slices.{goes_on}
 use Rattle.acq_inquiry.specs.declared.keeping.Keeping.{Keeping}
 use Rattle.acq_inquiry.specs.declared.looking.Looking.{Looking}
 use Rattle.acq_inquiry.specs.declared.posting_lines.PostingLines.{PostingLines}

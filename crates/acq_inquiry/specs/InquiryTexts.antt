@@ -1,5 +1,5 @@
 -- What became of the requests that are asked for (own profile).
-use Rattle.std.specs.Prelude.{ℕ, nat_lt, Bool, false, List, [], ◌∷◌, ◌++◌, codes, flat_map, length}
+use Rattle.std.specs.Prelude.{ℕ, nat_lt, List, [], ◌∷◌, ◌++◌, codes, flat_map, length}
 use Rattle.std.specs.Prelude.{if◌then◌else◌, Option, Some, None}
 use Rattle.std.specs.Fmt.{decimal}
 use Rattle.acq_core.specs.declared.request.Request.{Request}
@@ -18,21 +18,17 @@ abbrev pub text_of_told : Tables → List Request → List ℕ
 text_of_told t [] = codes "nothing found\n"
 text_of_told t (row ∷ rows) = flat_map (request_text t) (row ∷ rows)
 
--- how many were found
+-- more than so many were found
 abbrev pub many_line : ℕ → List ℕ
-many_line count =
-    decimal count ++ codes " requests found, too many to tell of: "
+many_line most =
+    codes "more than " ++ decimal most ++ codes " requests found, too many to tell of: "
     ++ codes "ask for one by its reference or trace number\n"
 
--- there are more than so many, if there is a bound
-abbrev pub is_more : Option ℕ → ℕ → Bool
-is_more None count = false
-is_more (Some most) count = nat_lt most count
-
--- what became of these requests; how many there are, where there are more than are told of
+-- what became of these requests; if there is a bound, no more than that there are more
 abbrev pub text_of_found : Tables → Option ℕ → List Request → List ℕ
-text_of_found t most rows =
-    if is_more most (length rows) then many_line (length rows) else text_of_told t rows
+text_of_found t None rows = text_of_told t rows
+text_of_found t (Some most) rows =
+    if nat_lt most (length rows) then many_line most else text_of_told t rows
 
 -- of those that an inquiry finds, in the order in which they came
 abbrev pub inquiry_text : Tables → List ℕ → Inquiry → Option ℕ → List ℕ

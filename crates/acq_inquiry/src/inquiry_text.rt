@@ -14,12 +14,12 @@ use acq_book::{Book, BookFault};
 use acq_core::Request;
 use std::alloc::{AllocError, Global};
 
-/// How many requests were found, which are too many to tell of.
-pub(crate) fn many_text(alloc: Global, count: u64) -> Result<Vec<u8>, AllocError>
-    ensures { IfOk result (λ text. text.items ≡ many_line count) }
+/// That more than so many requests were found.
+pub(crate) fn many_text(alloc: Global, most: u64) -> Result<Vec<u8>, AllocError>
+    ensures { IfOk result (λ text. text.items ≡ many_line most) }
 {
-    let mut text = Vec::new(alloc);
-    put_number(&mut text, count)?;
+    let mut text = Vec::from_slice(alloc, b"more than ")?;
+    put_number(&mut text, most)?;
     text.extend_from_slice(b" requests found, too many to tell of: ")?;
     text.extend_from_slice(b"ask for one by its reference or trace number\n")?;
     Ok(text)

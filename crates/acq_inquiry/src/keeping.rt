@@ -3,9 +3,9 @@
 ghost use Rattle.std.specs.Prelude.{◌≡◌, ◌++◌, ◌+◌, OnOk};
 ghost use Rattle.acq_inquiry.specs.Gathering.{kept_if};
 
-use crate::search::goes_on;
 use acq_book::Visit;
 use acq_core::{Posting, Reference};
+use acq_reports::goes_on;
 use std::alloc::{AllocError, Global};
 
 /// The postings that have one of these references, up to a row.

@@ -9,9 +9,9 @@ ghost use Rattle.acq_inquiry.specs.KeptPostings.{IsKept, is_on, kept_in};
 
 use crate::keeping::Keeping;
 use crate::posted_day::{PostedDay, postings_copied, put_day};
-use crate::search::goes_on;
 use acq_book::{Book, BookFault};
 use acq_core::{MerchantId, Posting, Reference};
+use acq_reports::goes_on;
 use day_totals::Day;
 use std::alloc::Global;
 

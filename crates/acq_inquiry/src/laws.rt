@@ -70,8 +70,8 @@ pub fn worked_standings()
     ensures none { inquiry_text asked_tables first_merchant (CardEnds (codes "5559") 8888) None
         ≡ codes "nothing found\n" }
     ensures many { inquiry_text asked_tables first_merchant (Reference 5002) (Some 1)
-        ≡ codes "2 requests found, too many to tell of: ask for one by its reference or trace "
-        ++ codes "number\n" }
+        ≡ codes "more than 1 requests found, too many to tell of: ask for one by its reference or "
+        ++ codes "trace number\n" }
     ensures enough { inquiry_text asked_tables first_merchant (Reference 5002) (Some 2)
         ≡ inquiry_text asked_tables first_merchant (Reference 5002) None }
 {}

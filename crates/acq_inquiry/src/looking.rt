@@ -1,12 +1,13 @@
 //! Places of the requests that are found, gathered.
 
 ghost use Rattle.std.specs.Prelude.{◌≡◌, ◌++◌, ◌+◌, OnOk};
-ghost use Rattle.acq_statement.specs.Slices.{goes_on};
+ghost use Rattle.acq_reports.specs.Slices.{goes_on};
 ghost use Rattle.acq_inquiry.specs.Gathering.{place_if};
 
-use crate::search::{Search, goes_on};
+use crate::search::Search;
 use acq_book::Visit;
 use acq_core::Request;
+use acq_reports::goes_on;
 use day_totals::Day;
 use std::alloc::AllocError;
 

@@ -1,13 +1,13 @@
 //! A search that takes slice after slice of the requests.
 
-ghost use Rattle.std.specs.Prelude.{◌≡◌, ◌↔◌, ◌&&◌, flat_map, length, true, None, is_ok, IfOk};
+ghost use Rattle.std.specs.Prelude.{◌≡◌, ◌↔◌, ◌&&◌, ◌*◌, ◌<◌, nat_lt, flat_map, length, false};
+ghost use Rattle.std.specs.Prelude.{true, None, Some, is_ok, IfOk};
 ghost use Rattle.std.specs.Str.{bytes_eq};
 ghost use Rattle.acq_book.specs.Calls.{Looks};
 ghost use Rattle.acq_book.specs.Promise.{CountsFault};
 ghost use Rattle.acq_core.specs.Tables.{Tables};
-ghost use Rattle.acq_statement.specs.Slices.{goes_on};
 ghost use Rattle.acq_inquiry.specs.Inquiries.{found_at, is_asked, is_found, is_one_of};
-ghost use Rattle.acq_inquiry.specs.InquiryTexts.{inquiry_text, is_more, text_of_told};
+ghost use Rattle.acq_inquiry.specs.InquiryTexts.{inquiry_text, text_of_told};
 ghost use Rattle.acq_inquiry.specs.KeptPostings.{told_with};
 ghost use Rattle.acq_inquiry.specs.Searching.{Asks, IsCopied, IsSearched, IsWhole, SeesMore};
 ghost use Rattle.acq_inquiry.specs.Searching.{row_at};
@@ -21,19 +21,16 @@ use crate::rows_at::rows_at;
 use crate::seeing::Seeing;
 use acq_book::{Book, BookFault};
 use acq_core::{MerchantId, Reference, Request};
+use acq_reports::SLICE;
 use day_totals::Day;
 use std::alloc::{AllocError, Global};
 
-/// So many rows are gone over at a time: a walk's query has read 2, 8 and 64 rows by then, and would
-/// read 512 next.
-const SLICE: u64 = 74;
-
-/// So many references are compared with a row in about the time that the row takes to be read.
-const REFERENCES_A_ROW: u64 = 1_000;
-
 /// While events are taken between slices, a text tells of so many requests at most, since it is
-/// made at one moment.
+/// made at one moment; and a search for it ends once it is known to find more.
 pub const MOST_TOLD: u64 = 100;
+
+/// So many references a request has at most: its own, and that of the one which it follows.
+const REFERENCES: u64 = 2;
 
 /// A search for the requests that an inquiry finds among a merchant's, which goes over a book's
 /// requests, and over the postings of their days, slice by slice, while events are taken between
@@ -88,9 +85,10 @@ impl Search {
         self.merchant == merchant && self.inquiry == *inquiry
     }
 
-    /// Whether it has gone over all the rows that there were in its last slice.
+    /// Whether it has gone over all the rows that there were in its last slice, or finds more
+    /// requests than [`MOST_TOLD`].
     pub fn is_done(&self) -> bool {
-        self.is_at_end
+        self.is_at_end || self.finds_more_than(MOST_TOLD)
     }
 
     /// Goes on by a slice, of some seventy rows; where it is done, over the rows that came since.
@@ -103,37 +101,40 @@ impl Search {
         ensures looks { Looks B.Book book.old book.new (is_ok result) }
         ensures store { CountsFault result (B.failures book.old) (B.failures book.new) }
     {
-        let seen = self.see(alloc, book, Some(self.seen.saturating_add(self.slice())))?;
+        let seen = self.see(alloc, book, Some(self.seen.saturating_add(SLICE)))?;
         if !seen.is_at_end {
             return Ok(seen);
         }
-        let looked = seen.look(alloc, book, Some(seen.looked.saturating_add(seen.slice())))?;
-        if !looked.is_at_end || looked.finds_more_than(Some(MOST_TOLD)) {
+        let looked = seen.look(alloc, book, Some(seen.looked.saturating_add(SLICE)))?;
+        if !looked.is_at_end || looked.finds_more_than(MOST_TOLD) {
             return Ok(looked);
         }
         looked.post(alloc, book, Some(SLICE))
     }
 
-    /// So many requests are gone over at a time, which are fewer where each is compared with very
-    /// many references.
-    fn slice(&self) -> u64 {
-        let references = self.references.len() as u64;
-        SLICE * REFERENCES_A_ROW / references.saturating_add(REFERENCES_A_ROW) + 1
+    /// Whether it is known by now that it finds more requests than so many.
+    fn finds_more_than(&self, most: u64) -> bool
+        ensures more { result ≡ true → (t : Tables) → IsSearched t self.now
+            → nat_lt most (length (found_at t self.now.merchant self.now.inquiry)) ≡ true }
+        ensures whole { result ≡ false → (t : Tables) → IsWhole t self.now
+            → nat_lt most (length (found_at t self.now.merchant self.now.inquiry)) ≡ false }
+    {
+        most < self.places.len() as u64 || self.refers_to_more_than(most)
     }
 
-    /// Whether it has found more requests than so many.
-    fn finds_more_than(&self, most: Option<u64>) -> bool
-        ensures { result ≡ is_more most (length self.now.places.items) }
+    /// Whether it has references of more requests than so many.
+    fn refers_to_more_than(&self, most: u64) -> bool
+        ensures { result ≡ true → 2 * most < length self.now.references.items }
     {
-        match most {
-            Some(most) => most < self.places.len() as u64,
+        match most.checked_mul(REFERENCES) {
+            Some(references) => references < self.references.len() as u64,
             None => false,
         }
     }
 
     /// What became of the requests that are found at this moment: the text of [`write_inquiry`], or
-    /// how many they are, where they are more than so many. Rows that it has not gone over are gone
-    /// over first, which are few where it is done.
+    /// that they are more than so many. Rows that it has not gone over are gone over first, which
+    /// are few where it is done.
     ///
     /// [`write_inquiry`]: crate::write_inquiry
     #[tactic(auto, using(acq_book::proofs::Chains::looks_more))]
@@ -149,10 +150,46 @@ impl Search {
         ensures looks { Looks B.Book book.old book.new (is_ok result) }
         ensures store { CountsFault result (B.failures book.old) (B.failures book.new) }
     {
+        match most {
+            Some(most) => self.text_up_to(alloc, book, most),
+            None => self.whole_text(alloc, book),
+        }
+    }
+
+    /// The text of no more requests than so many.
+    #[tactic(auto, using(acq_book::proofs::Chains::looks_more))]
+    fn text_up_to<B: Book>(
+        &self,
+        alloc: Global,
+        book: &mut B,
+        most: u64,
+    ) -> Result<Vec<u8>, BookFault>
+        ensures text { B.is_honest book.new → B.is_open book.old
+            → IsSearched (B.tables book.old) self.now → IfOk result (λ text. text.items
+            ≡ inquiry_text (B.tables book.old) self.now.merchant self.now.inquiry (Some most)) }
+        ensures looks { Looks B.Book book.old book.new (is_ok result) }
+        ensures store { CountsFault result (B.failures book.old) (B.failures book.new) }
+    {
+        if self.finds_more_than(most) {
+            return Ok(many_text(alloc, most)?);
+        }
         let whole = self.whole(alloc, book)?;
         if whole.finds_more_than(most) {
-            return Ok(many_text(alloc, whole.places.len() as u64)?);
+            return Ok(many_text(alloc, most)?);
         }
+        whole.told(alloc, book)
+    }
+
+    /// The text of all requests.
+    #[tactic(auto, using(acq_book::proofs::Chains::looks_more))]
+    fn whole_text<B: Book>(&self, alloc: Global, book: &mut B) -> Result<Vec<u8>, BookFault>
+        ensures text { B.is_honest book.new → B.is_open book.old
+            → IsSearched (B.tables book.old) self.now → IfOk result (λ text. text.items
+            ≡ inquiry_text (B.tables book.old) self.now.merchant self.now.inquiry None) }
+        ensures looks { Looks B.Book book.old book.new (is_ok result) }
+        ensures store { CountsFault result (B.failures book.old) (B.failures book.new) }
+    {
+        let whole = self.whole(alloc, book)?;
         whole.told(alloc, book)
     }
 
@@ -338,8 +375,8 @@ impl Search {
         Ok(next)
     }
 
-    /// Goes over the postings of the requests' days behind those that were gone over; of each day to
-    /// the last, or so many.
+    /// Goes over the postings of the requests' days behind those that were gone over; of each day
+    /// to the last, or so many.
     fn post<B: Book>(
         &self,
         alloc: Global,
@@ -380,16 +417,6 @@ impl Search {
             && (self.inquiry.asks_for(row)
                 || is_one_of(references, row.reference)
                 || is_one_of(references, row.follows))
-    }
-}
-
-/// Whether a walk is to go on, which ends with so many rows, or with the last.
-pub(crate) fn goes_on(end: Option<u64>, place: u64) -> bool
-    ensures { result ≡ goes_on end place }
-{
-    match end {
-        Some(end) => place < end,
-        None => true,
     }
 }
 

@@ -1,13 +1,14 @@
 //! References of the requests that are asked for, gathered.
 
 ghost use Rattle.std.specs.Prelude.{◌≡◌, ◌++◌, ◌+◌, OnOk};
-ghost use Rattle.acq_statement.specs.Slices.{goes_on};
+ghost use Rattle.acq_reports.specs.Slices.{goes_on};
 ghost use Rattle.acq_inquiry.specs.Gathering.{references_if};
 ghost use Rattle.acq_inquiry.specs.Inquiries.{reference_if};
 
-use crate::search::{Search, goes_on};
+use crate::search::Search;
 use acq_book::Visit;
 use acq_core::{Reference, Request};
+use acq_reports::goes_on;
 use std::alloc::AllocError;
 
 /// The references of a merchant's requests that are asked for, and of those that they follow, up to
