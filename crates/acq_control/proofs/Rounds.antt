@@ -13,6 +13,7 @@ use Rattle.acq_control.specs.Log.{FollowsActs, asked_by, behind_acts}
 use Rattle.acq_control.specs.Unmade.{MayBeUnmade, is_said, unmade_at}
 use Rattle.acq_control.specs.declared.unmade_answer.UnmadeAnswer.{UnmadeAnswer}
 use Rattle.acq_control.specs.declared.unmade_answer.UnmadeAnswer.TheVariants.{Clearing, Finding}
+use Rattle.acq_control.specs.declared.unmade_answer.UnmadeAnswer.TheVariants.{Comparing}
 use Rattle.acq_control.specs.declared.unmade_answer.UnmadeAnswer.TheVariants.{Stating}
 use Rattle.acq_front.specs.Faults.{UnlessRefused}
 use Rattle.acq_front.specs.declared.front_fault.FrontFault as fault
@@ -33,6 +34,7 @@ said_none t None said = refl
 said_none t (Some (Clearing c)) said = absurd (true≢false (sym said))
 said_none t (Some (Finding search)) said = refl
 said_none t (Some (Stating gathering)) said = refl
+said_none t (Some (Comparing comparison)) said = refl
 
 module _ (may_give : ℕ → Type 0) (serving : Serving) (old : Tables) (left : Left) where
   -- a line was taken

@@ -20,6 +20,7 @@ use Rattle.acq_inquiry.proofs.Later.{searched_later}
 use Rattle.acq_statement.proofs.Gathered.{gathered_later}
 use Rattle.acq_control.specs.declared.unmade_answer.UnmadeAnswer.{UnmadeAnswer}
 use Rattle.acq_control.specs.declared.unmade_answer.UnmadeAnswer.TheVariants.{Clearing, Finding}
+use Rattle.acq_control.specs.declared.unmade_answer.UnmadeAnswer.TheVariants.{Comparing}
 use Rattle.acq_control.specs.declared.unmade_answer.UnmadeAnswer.TheVariants.{Stating}
 use Rattle.acq_control.specs.declared.clearing_stage.ClearingStage.{ClearingStage}
 use Rattle.acq_control.specs.declared.clearing_stage.ClearingStage.TheVariants.{Counting, Saying}
@@ -49,6 +50,7 @@ pub unmade_later : (t : Tables) (events : List Event) (o : Option UnmadeAnswer) 
 unmade_later t events None may = tt
 unmade_later t events (Some (Finding search)) may = searched_later t events search may
 unmade_later t events (Some (Stating gathering)) may = gathered_later t events gathering may
+unmade_later t events (Some (Comparing comparison)) may = tt
 unmade_later t events (Some (Clearing c)) may = record {
   given = given_again t events c.day may.given;
   counted = counted_same t (tables_after t events) c.day
@@ -60,6 +62,7 @@ pub unmade_same : (t : Tables) (events : List Event) (o : Option UnmadeAnswer) â
 unmade_same t events None may = refl
 unmade_same t events (Some (Finding search)) may = refl
 unmade_same t events (Some (Stating gathering)) may = refl
+unmade_same t events (Some (Comparing comparison)) may = refl
 unmade_same t events (Some (Clearing c)) may =
     rest_same t (tables_after t events) c.day (same_postings t events c.day may.given) c.stage
 

@@ -18,6 +18,7 @@ use Rattle.acq_control.specs.declared.question.Question.{Question}
 use Rattle.acq_control.specs.declared.said.Said.{Said}
 use Rattle.acq_control.specs.declared.unmade_answer.UnmadeAnswer.{UnmadeAnswer}
 use Rattle.acq_control.specs.declared.unmade_answer.UnmadeAnswer.TheVariants.{Clearing, Finding}
+use Rattle.acq_control.specs.declared.unmade_answer.UnmadeAnswer.TheVariants.{Comparing}
 use Rattle.acq_control.specs.declared.unmade_answer.UnmadeAnswer.TheVariants.{Stating}
 
 -- the file of a day, of which nothing is made yet
@@ -34,6 +35,7 @@ unmade_at t None = []
 unmade_at t (Some (Clearing c)) = rest_of t c.day c.stage
 unmade_at t (Some (Finding search)) = []
 unmade_at t (Some (Stating gathering)) = []
+unmade_at t (Some (Comparing comparison)) = []
 
 -- whatever was begun to be said is made, so that a line may be taken
 abbrev pub is_said : Option UnmadeAnswer → Bool
@@ -41,6 +43,7 @@ is_said None = true
 is_said (Some (Clearing c)) = false
 is_said (Some (Finding search)) = true
 is_said (Some (Stating gathering)) = true
+is_said (Some (Comparing comparison)) = true
 
 -- so many bytes are those in front of the bookmark
 abbrev pub IsCounted : Tables → ℕ → ClearingStage → Type 0
@@ -58,6 +61,7 @@ MayBeUnmade t None = Unit {0}
 MayBeUnmade t (Some (Clearing c)) = IsUnmade t c
 MayBeUnmade t (Some (Finding search)) = IsSearched t search
 MayBeUnmade t (Some (Stating gathering)) = IsGathered t gathering
+MayBeUnmade t (Some (Comparing comparison)) = Unit {0}
 
 -- what is said next, and behind it what is then still to be made, is what was still to be made
 pub record GoesOn (t : Tables) (rest : List ℕ) (said : Said) : Type 0 where

@@ -33,7 +33,9 @@ use crate::list_text::ListText;
 use crate::merchant_statement::MerchantStatement;
 use crate::pending_text::PendingText;
 use crate::question::Question;
+use crate::report_csv_text::ReportCsvText;
 use crate::said::Said;
+use crate::settlement_text::SettlementText;
 use crate::sought::Sought;
 use crate::stated::Stated;
 use crate::status_text::StatusText;
@@ -122,8 +124,8 @@ fn put_question<B: Book + Drop>(
     ensures store { TellsStore B.Book host.old host.new result }
 {
     match question {
-        Question::Report(report) => return put_report(alloc, host, *report, answer),
-        Question::ReportCsv(day) => put_report_csv(alloc, host, *day, answer)?,
+        Question::Report(report) => return put_report(alloc, host, *report, prepared, answer),
+        Question::ReportCsv(day) => put_report_csv(alloc, host, *day, prepared, answer)?,
         Question::Sums(day) => put_asked(alloc, host, &SumsText { day: *day }, answer)?,
         Question::Event(event) => put_event(alloc, host, event, answer)?,
         Question::Find(sought) => put_found(host, *sought, prepared, answer)?,
@@ -197,6 +199,7 @@ fn put_report<B: Book + Drop>(
     alloc: Global,
     host: &mut Host<B>,
     asked: DayReport,
+    prepared: &Option<UnmadeAnswer>,
     answer: &mut MemorySink,
 ) -> Result<Option<UnmadeAnswer>, BookFault>
     ensures answers { B.is_honest host.new → B.is_open host.old → IfOk result
@@ -210,7 +213,7 @@ fn put_report<B: Book + Drop>(
     match asked.kind {
         ReportKind::Clearing => begin_clearing(host, asked.day, answer),
         ReportKind::Settlement => {
-            put_settlement(alloc, host, asked.day, answer)?;
+            put_settlement(alloc, host, asked.day, prepared, answer)?;
             Ok(None)
         }
     }
@@ -244,6 +247,7 @@ fn put_settlement<B: Book + Drop>(
     alloc: Global,
     host: &mut Host<B>,
     day: Day,
+    prepared: &Option<UnmadeAnswer>,
     answer: &mut MemorySink,
 ) -> Result<(), BookFault>
     ensures answers { B.is_honest host.new → B.is_open host.old → OnOk result (sent_of answer.new
@@ -253,6 +257,9 @@ fn put_settlement<B: Book + Drop>(
     ensures refused { OnErr result ((done : Bool) × Looks B.Book host.old host.new done) }
     ensures store { TellsStore B.Book host.old host.new result }
 {
+    if is_compared(prepared, day) {
+        return put_unless_refused(alloc, host, day, &SettlementText { day }, answer);
+    }
     let mut text = MemorySink::new(alloc);
     let made = host.write_settlement(day, &mut text);
     put_text(made, text.as_bytes(), answer)
@@ -263,6 +270,7 @@ fn put_report_csv<B: Book + Drop>(
     alloc: Global,
     host: &mut Host<B>,
     day: Day,
+    prepared: &Option<UnmadeAnswer>,
     answer: &mut MemorySink,
 ) -> Result<(), BookFault>
     ensures answers { B.is_honest host.new → B.is_open host.old → OnOk result (sent_of answer.new
@@ -272,9 +280,45 @@ fn put_report_csv<B: Book + Drop>(
     ensures refused { OnErr result ((done : Bool) × Looks B.Book host.old host.new done) }
     ensures store { TellsStore B.Book host.old host.new result }
 {
+    if is_compared(prepared, day) {
+        return put_unless_refused(alloc, host, day, &ReportCsvText { day }, answer);
+    }
     let mut text = MemorySink::new(alloc);
     let made = host.write_report_csv(day, &mut text);
     put_text(made, text.as_bytes(), answer)
+}
+
+/// Whether the postings of a day were compared with its totals before the line was taken, and add
+/// up. Else they are compared at one moment, and what is to be told of them is told.
+fn is_compared(prepared: &Option<UnmadeAnswer>, day: Day) -> bool {
+    match prepared {
+        Some(UnmadeAnswer::Comparing(comparison)) => comparison.adds_up(day),
+        _ => false,
+    }
+}
+
+/// Puts a text of a day, or why the day can't be reported on.
+fn put_unless_refused<B: Book + Drop, X: BookText>(
+    alloc: Global,
+    host: &mut Host<B>,
+    day: Day,
+    asked: &X,
+    answer: &mut MemorySink,
+) -> Result<(), BookFault>
+    ensures answers { B.is_honest host.new → B.is_open host.old → OnOk result (sent_of answer.new
+        ≡ sent_of answer.old ++ text_unless_refused (day_refusal (B.tables host.old) day)
+        (X.text asked.now (B.tables host.old))) }
+    ensures does { OnOk result (Looks B.Book host.old host.new true) }
+    ensures refused { OnErr result ((done : Bool) × Looks B.Book host.old host.new done) }
+    ensures store { TellsStore B.Book host.old host.new result }
+{
+    match host.check_day(day) {
+        Ok(()) => put_asked(alloc, host, asked, answer),
+        Err(fault) => {
+            put_refusal(fault, answer)?;
+            Ok(())
+        }
+    }
 }
 
 /// Puts what became of requests, or why that is refused.

@@ -2,11 +2,12 @@
 //! the host's end, and what is said to each out.
 //!
 //! A [`ControlConversation`] is one end of such a connection without its reads and writes, as
-//! `Conversation` is one of a terminal's: it is fed with what comes, has the host do what the lines
-//! ask turn by turn, and holds what is to be written. A clearing file is made slice by slice, and so
-//! are rows gone over for a statement and for what is found, so that others are served between two
-//! of them. A [`ControlExchange`] is one over a line whose reads and writes don't wait. What they
-//! have to do with one host, among terminals, stands in `specs/Log.antt` and [`laws`].
+//! `Conversation` is one of a terminal's: it is fed with what comes, has the host do what the
+//! lines ask turn by turn, and holds what is to be written. A clearing file is made slice by slice,
+//! and so are rows gone over for a settlement report, a statement and what is found, so that others
+//! are served between two of them. A [`ControlExchange`] is one over a line whose reads and writes
+//! don't wait. What they have to do with one host, among terminals, stands in `specs/Log.antt` and
+//! [`laws`].
 //!
 //! [`tell`] is the other side of such a connection: the lines of an input in, and what the host
 //! says to them out.
@@ -16,6 +17,7 @@ mod answer_kind;
 mod answering;
 mod clearing_answer;
 mod clearing_stage;
+mod comparison_look;
 mod control_conversation;
 mod control_exchange;
 mod control_input;
@@ -37,8 +39,10 @@ mod preparing;
 mod question;
 mod question_word;
 mod reading;
+mod report_csv_text;
 mod said;
 mod search_look;
+mod settlement_text;
 mod sought;
 mod stated;
 mod statement_line;

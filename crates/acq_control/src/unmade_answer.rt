@@ -6,6 +6,7 @@ ghost use Rattle.acq_book.specs.Promise.{CountsFault};
 ghost use Rattle.acq_control.specs.Unmade.{GoesOn, MayBeUnmade, is_said, unmade_at};
 
 use crate::clearing_answer::ClearingAnswer;
+use crate::comparison_look::ComparisonLook;
 use crate::gathering_look::GatheringLook;
 use crate::said::Said;
 use crate::search_look::SearchLook;
@@ -13,6 +14,7 @@ use acq_book::{Book, BookFault};
 use acq_host::Host;
 use acq_inquiry::Search;
 use acq_link::MemorySink;
+use acq_reports::DayComparison;
 use acq_statement::Gathering;
 use std::alloc::Global;
 
@@ -26,6 +28,8 @@ pub enum UnmadeAnswer {
     Finding(Search),
     /// A statement of a merchant's day, alike.
     Stating(Gathering),
+    /// A settlement report: the day's postings are compared with its totals, alike.
+    Comparing(DayComparison),
 }
 
 impl UnmadeAnswer {
@@ -37,6 +41,7 @@ impl UnmadeAnswer {
             UnmadeAnswer::Clearing(_) => true,
             UnmadeAnswer::Finding(search) => !search.is_done(),
             UnmadeAnswer::Stating(gathering) => !gathering.is_done(),
+            UnmadeAnswer::Comparing(comparison) => !comparison.is_done(),
         }
     }
 
@@ -66,6 +71,13 @@ impl UnmadeAnswer {
                 Ok(Said {
                     text: MemorySink::new(alloc),
                     unmade: Some(UnmadeAnswer::Stating(next)),
+                })
+            }
+            UnmadeAnswer::Comparing(comparison) => {
+                let next = host.look(&ComparisonLook { comparison })?;
+                Ok(Said {
+                    text: MemorySink::new(alloc),
+                    unmade: Some(UnmadeAnswer::Comparing(next)),
                 })
             }
         }
