@@ -37,9 +37,9 @@ none_counted {X} p (x ∷ xs) e = step (p x) (none_counted p xs) e
     step false rest e = rest e
 
 -- a day that is given is over
-record IsGiven (t : Tables) (day : ℕ) : Type 0 where
-  over : day < t.day
-  none : has_pending day t.requests ≡ false
+pub record IsGiven (t : Tables) (day : ℕ) : Type 0 where
+  pub over : day < t.day
+  pub none : has_pending day t.requests ≡ false
 
 given_parts : (over : Bool) (n : ℕ) → cond over (pending_refusal n) (Some DayNotOver) ≡ None →
     (over ≡ true) × (n ≡ 0)
@@ -50,7 +50,7 @@ given_parts true n e = (refl, none_left (n == 0) refl e)
     none_left true is e = grind (arith, nat_tests)
     none_left false is e = absurd (cc)
 
-is_given : (t : Tables) (day : ℕ) → day_refusal t day ≡ None → IsGiven t day
+pub is_given : (t : Tables) (day : ℕ) → day_refusal t day ≡ None → IsGiven t day
 is_given t day e =
     let parts = given_parts (nat_lt day t.day) (pending_at t day) e in
     record {
