@@ -73,9 +73,10 @@ class Page:
         with self.connection(sent) as end:
             return rest(end)
 
-    def get(self, target="/", method="GET"):
-        """The status, the fields and the body of a reply."""
-        return parts(self.ask(f"{method} {target} HTTP/1.1\r\nHost: localhost\r\n\r\n".encode()))
+    def get(self, target="/", method="GET", names=("localhost",)):
+        """The status, the fields and the body of a reply to a head with these Host fields."""
+        lines = "".join(f"Host: {it}\r\n" for it in names)
+        return parts(self.ask(f"{method} {target} HTTP/1.1\r\n{lines}\r\n".encode()))
 
     def text(self):
         self.is_there()
@@ -228,6 +229,36 @@ def heads(program):
                              (b"GET / HTTP/1.1\r\n" + b"a: b\r\n" * 70 + b"\r\n", 431),
                              (b"GET / HTTP/1.1\r\nx: " + b"y" * 9000 + b"\r\n\r\n", 431)):
             wanted(f"the status of {sent[:30]!r}", parts(page.ask(sent))[0], status)
+
+
+def host_names(program):
+    """A head that names this machine, or no host, gets its page. One that names another host, as
+    of a web site whose name leads here, gets none, and the host isn't asked for it."""
+    with Book(program) as book, host_over(book) as host, Page(host) as page:
+        page.is_there()
+        here, other = f"127.0.0.1:{page.port}", "evil.example"
+        for names, status in (
+                ((), 200), ((here,), 200), (("LOCALHOST",), 200), (("[::1]:80",), 200),
+                (("localhost:",), 200), ((" 127.0.0.1\t",), 200), ((here, "localhost"), 200),
+                ((other,), 421), ((f"{other}:{page.port}",), 421), ((f"127.0.0.1.{other}",), 421),
+                ((f"localhost.{other}",), 421), ((here, other), 421), ((other, here), 421),
+                (("localhost:80x",), 421), (("localhost:80:80",), 421), (("127.0.0.1 80",), 421),
+                (("127.0.0.10",), 421), (("127.0.0",), 421), (("::1",), 421), (("",), 421)):
+            wanted(f"the status with the Host fields {names}", page.get(names=names)[0], status)
+        lower = f"GET / HTTP/1.1\r\nhost: {other}\r\n\r\n".encode()
+        wanted("the status with a host in lower case", parts(page.ask(lower))[0], 421)
+        wanted("the status of a POST to another host", page.get("/", "POST", (other,))[0], 405)
+        first, second = (int(host.figures()["lines_total"]) for _ in range(2))
+        time.sleep(KEPT)
+        for target in ("/", "/metrics", "/no"):
+            status, fields, body = page.get(target, names=(other,))
+            wanted(f"{target} of another host", (status, fields["Content-Type"]),
+                   (421, "text/html; charset=utf-8"))
+            wanted("what it says", b"for this machine alone" in body, True)
+            wanted("figures in it", b"acqd_" in body or b"All figures" in body, False)
+            wanted("HEAD of another host", page.get(target, "HEAD", (other,))[::2], (421, b""))
+        third = int(host.figures()["lines_total"])
+        wanted("lines to the host for another host", third - second, second - first)
 
 
 def asked_seldom(program):
@@ -389,8 +420,8 @@ def a_port_that_is_taken(program):
 
 
 TRIES = [
-    figures, sums, metrics, alarms, heads, asked_seldom, without_a_host, slow_ones, no_card,
-    beside_hostile_ones, a_port_that_is_taken,
+    figures, sums, metrics, alarms, heads, host_names, asked_seldom, without_a_host, slow_ones,
+    no_card, beside_hostile_ones, a_port_that_is_taken,
 ]
 
 if __name__ == "__main__":

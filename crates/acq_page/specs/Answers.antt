@@ -1,5 +1,5 @@
 -- What is replied to a request, by what the host said of itself.
-use Rattle.std.specs.Prelude.{◌≡◌, ◌++◌, ℕ, List, [], length, Option, Some, None, is_some}
+use Rattle.std.specs.Prelude.{◌≡◌, ◌++◌, ℕ, List, [], length, Option, is_some}
 use Rattle.std.specs.Prelude.{MatchOption, if◌then◌else◌}
 use Rattle.httpdate.specs.declared.date.HttpDate.{HttpDate}
 use Rattle.acq_page.specs.Pages.{page_of}
@@ -20,6 +20,7 @@ status_of asked.Page said = if is_some said.status then status.Done else status.
 status_of asked.Metrics said = if is_some said.metrics then status.Done else status.NoHost
 status_of asked.Missing said = status.NotFound
 status_of asked.OtherMethod said = status.OtherMethod
+status_of asked.OtherHost said = status.OtherHost
 status_of asked.Bad said = status.BadHead
 status_of asked.TooLong said = status.HeadTooLong
 

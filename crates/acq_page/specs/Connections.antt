@@ -1,5 +1,5 @@
 -- Connections, each of which brings one request and takes one reply.
-use Rattle.std.specs.Prelude.{◌==◌, ◌&&◌, ℕ, Bool, List, [], drop, length, Option, Some, None}
+use Rattle.std.specs.Prelude.{◌==◌, ◌&&◌, ℕ, Bool, List, [], drop, length, Some, None}
 use Rattle.std.specs.Prelude.{is_some}
 use Rattle.acq_page.specs.declared.http_connection.HttpConnection.{HttpConnection}
 

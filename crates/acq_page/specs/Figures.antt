@@ -1,6 +1,6 @@
 -- How the texts of a host are read: a status is lines, each of a key and a value.
-use Rattle.std.specs.Prelude.{◌==◌, ℕ, Bool, List, [], ◌∷◌, drop, length, Option, Some, None}
-use Rattle.std.specs.Prelude.{map, nat_eq, if◌then◌else◌}
+use Rattle.std.specs.Prelude.{◌==◌, ℕ, List, [], ◌∷◌, drop, length, Option, Some, None}
+use Rattle.std.specs.Prelude.{nat_eq, if◌then◌else◌}
 use Rattle.std.specs.List.{filter_map, slice_split, starts_with}
 
 -- the lines of a text: what stands between its line feeds

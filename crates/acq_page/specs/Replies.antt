@@ -7,13 +7,14 @@ use Rattle.acq_page.specs.declared.content_kind.ContentKind.{ContentKind}
 use Rattle.acq_page.specs.declared.content_kind.ContentKind.TheVariants.{Html, Metrics}
 use Rattle.acq_page.specs.declared.status.Status.{Status}
 use Rattle.acq_page.specs.declared.status.Status.TheVariants.{Done, BadHead, NotFound, OtherMethod}
-use Rattle.acq_page.specs.declared.status.Status.TheVariants.{HeadTooLong, NoHost}
+use Rattle.acq_page.specs.declared.status.Status.TheVariants.{OtherHost, HeadTooLong, NoHost}
 
 abbrev pub reason_of : Status → List ℕ
 reason_of Done = codes "200 OK"
 reason_of BadHead = codes "400 Bad Request"
 reason_of NotFound = codes "404 Not Found"
 reason_of OtherMethod = codes "405 Method Not Allowed"
+reason_of OtherHost = codes "421 Misdirected Request"
 reason_of HeadTooLong = codes "431 Request Header Fields Too Large"
 reason_of NoHost = codes "503 Service Unavailable"
 

@@ -11,6 +11,8 @@ pub enum Asked {
     Missing,
     /// By another method than GET or HEAD.
     OtherMethod,
+    /// Another host than this machine.
+    OtherHost,
     /// Nothing: its head is none.
     Bad,
     /// Nothing: its head is too long, or has too many fields.

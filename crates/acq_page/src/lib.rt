@@ -17,6 +17,7 @@ mod figure_table;
 mod figures;
 mod frame;
 mod head;
+mod host_name;
 mod host_said;
 mod html;
 mod http_connection;

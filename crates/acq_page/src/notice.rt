@@ -31,6 +31,9 @@ fn said(status: Status) -> &'static str {
         Status::BadHead => "That was no request of HTTP.",
         Status::NotFound => "There is nothing here. The page is at <a href=\"/\">/</a>.",
         Status::OtherMethod => "Nothing can be changed here: ask by GET or HEAD.",
+        Status::OtherHost => {
+            "This page is for this machine alone: ask for it as 127.0.0.1 or localhost."
+        }
         Status::HeadTooLong => "The head of that request is too long.",
         Status::NoHost => "The host doesn't answer. See that it runs, and read its log.",
     }

@@ -4,6 +4,7 @@ ghost use Rattle.std.specs.Prelude.{◌≡◌, ◌≤◌, length};
 ghost use Rattle.acq_page.specs.Requests.{IsAskedBy, asked_of, named_by};
 
 use crate::asked::Asked;
+use crate::host_name::is_other_host;
 use crate::request::Request;
 use httparse::spans::{EMPTY_HEADER_SPAN, parse_request};
 use httparse::{Error, Status};
@@ -23,7 +24,11 @@ pub(crate) fn asked_by(bytes: &[u8]) -> Option<Request>
         Ok(Status::Complete(head)) => {
             let method = head.method.of(bytes);
             let target = head.path.of(bytes);
-            Some(asked_of(method, target))
+            let mut for_other = false;
+            for field in &fields[..head.headers] {
+                for_other |= is_other_host(field.name.of(bytes), field.value.of(bytes));
+            }
+            Some(asked_of(method, target, for_other))
         }
         Ok(Status::Partial) => {
             if bytes.len() < LONGEST_HEAD {
@@ -37,15 +42,16 @@ pub(crate) fn asked_by(bytes: &[u8]) -> Option<Request>
     }
 }
 
-/// What a head with this method and this target asks.
-fn asked_of(method: &[u8], target: &[u8]) -> Request
-    ensures { result ≡ asked_of method.now target.now }
+/// What a head with this method and this target asks, for another host or not. The method is looked
+/// at first, then the host, then the target.
+fn asked_of(method: &[u8], target: &[u8], for_other: bool) -> Request
+    ensures { result ≡ asked_of method.now target.now for_other }
 {
     if method == b"GET".as_slice() {
-        Request::whole(named_by(target))
+        Request::whole(named_by(target, for_other))
     } else if method == b"HEAD".as_slice() {
         Request {
-            asked: named_by(target),
+            asked: named_by(target, for_other),
             with_body: false,
         }
     } else {
@@ -53,11 +59,13 @@ fn asked_of(method: &[u8], target: &[u8]) -> Request
     }
 }
 
-/// What a target names.
-fn named_by(target: &[u8]) -> Asked
-    ensures { result ≡ named_by target.now }
+/// What a target names, in a head for another host or not.
+fn named_by(target: &[u8], for_other: bool) -> Asked
+    ensures { result ≡ named_by target.now for_other }
 {
-    if target == b"/".as_slice() {
+    if for_other {
+        Asked::OtherHost
+    } else if target == b"/".as_slice() {
         Asked::Page
     } else if target == b"/metrics".as_slice() {
         Asked::Metrics

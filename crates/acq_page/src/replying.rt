@@ -62,6 +62,7 @@ fn content_for(alloc: Global, asked: Asked, said: &HostSaid) -> Result<Content, 
         },
         Asked::Missing => notice(alloc, Status::NotFound),
         Asked::OtherMethod => notice(alloc, Status::OtherMethod),
+        Asked::OtherHost => notice(alloc, Status::OtherHost),
         Asked::Bad => notice(alloc, Status::BadHead),
         Asked::TooLong => notice(alloc, Status::HeadTooLong),
     }

@@ -10,6 +10,7 @@ pub enum Status {
     BadHead,
     NotFound,
     OtherMethod,
+    OtherHost,
     HeadTooLong,
     /// The host doesn't answer.
     NoHost,
@@ -25,6 +26,7 @@ impl Status {
             Status::BadHead => "400 Bad Request",
             Status::NotFound => "404 Not Found",
             Status::OtherMethod => "405 Method Not Allowed",
+            Status::OtherHost => "421 Misdirected Request",
             Status::HeadTooLong => "431 Request Header Fields Too Large",
             Status::NoHost => "503 Service Unavailable",
         }

@@ -42,12 +42,22 @@ fn has(text: &[u8], part: &[u8]) -> bool {
 
 #[test]
 fn heads(rt: HostRuntime) {
-    let cases: [(&[u8], Asked, bool); 8] = [
+    let cases: [(&[u8], Asked, bool); 10] = [
         (b"GET / HTTP/1.1\r\n\r\n", Asked::Page, true),
         (b"HEAD /metrics HTTP/1.0\n\n", Asked::Metrics, false),
         (
-            b"GET /metrics HTTP/1.1\r\nHost: here\r\n\r\nmore",
+            b"GET /metrics HTTP/1.1\r\nHost: LocalHost:80\r\n\r\nmore",
             Asked::Metrics,
+            true,
+        ),
+        (
+            b"HEAD / HTTP/1.1\r\nhost: [::1]\r\nHOST: here\r\n\r\n",
+            Asked::OtherHost,
+            false,
+        ),
+        (
+            b"POST / HTTP/1.1\r\nHost: here\r\n\r\n",
+            Asked::OtherMethod,
             true,
         ),
         (b"GET /../etc HTTP/1.1\r\n\r\n", Asked::Missing, true),
@@ -131,9 +141,10 @@ fn without_a_host(rt: HostRuntime) {
 
 #[test]
 fn other_statuses(rt: HostRuntime) {
-    let cases: [(Asked, &[u8]); 4] = [
+    let cases: [(Asked, &[u8]); 5] = [
         (Asked::Missing, b"HTTP/1.1 404 "),
         (Asked::OtherMethod, b"HTTP/1.1 405 "),
+        (Asked::OtherHost, b"HTTP/1.1 421 Misdirected Request\r\n"),
         (Asked::Bad, b"HTTP/1.1 400 "),
         (Asked::TooLong, b"HTTP/1.1 431 "),
     ];

@@ -1,6 +1,5 @@
 use Rattle.std.proofs.Common.{◌≡◌, ◌<◌, ◌≤◌, ℕ, List, length, take, sym, arith}
 use Rattle.std.proofs.lemmas.List.{length-take-le, take_all}
-use Rattle.acq_page.specs.Requests.{longest_head}
 use Rattle.acq_page.proofs.http_connection.front_of.Goals as goal
 
 -- stated of any length, since a list can't be cut at a number as large without steps of that number
