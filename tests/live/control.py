@@ -17,18 +17,21 @@ played, each line cut anywhere, beside a connection that ends inside a line that
 A clearing file is made in slices: while it is asked for, a terminal's echoes and sales of the next
 day are answered one by one, another control connection gets its answers, and one that asked and
 went away leaves the host well. The file is that of `clearing` over a copy of the book. So it is of
-what a `find` and a `statement` are answered with, for which rows are gone over in slices."""
+what a `report`, a `find` and a `statement` are answered with, for which rows are gone over in
+slices."""
 import os
 import random
 import re
 import select
 import signal
 import socket
+import sqlite3
 import stat
 import subprocess
 import sys
 import threading
 from collections import Counter
+from contextlib import closing
 
 from terminal import (
     APPROVING, DAY, ECHO, MOMENT, PATIENCE, REPLY, Book, Host, Wrong, code_of, free_port,
@@ -42,6 +45,20 @@ SHOPS, SALES = range(10, 70, 10), 3000
 # the file: one in each round in which it reads the line, takes it and writes, and one before them.
 # One that makes it in slices answers some two dozen.
 IN_SLICES, TURNS = 6, 30
+OF_THIRD = f"WHERE merchant = '{merchant(SHOPS[2])}' AND day = (SELECT MIN(day) FROM postings)"
+# What somebody may change of that day: its first posting, its last one, a merchant's totals, and
+# totals of a merchant that has no posting; and how that is put right.
+CHANGES = [
+    ("UPDATE postings SET amount = amount + 1 WHERE rowid = 1",
+     "UPDATE postings SET amount = amount - 1 WHERE rowid = 1"),
+    (f"UPDATE postings SET leg = 5 - leg WHERE rowid = {SALES}",
+     f"UPDATE postings SET leg = 5 - leg WHERE rowid = {SALES}"),
+    (f"UPDATE running SET debits = debits + 1 {OF_THIRD}",
+     f"UPDATE running SET debits = debits - 1 {OF_THIRD}"),
+    (f"INSERT INTO running SELECT '{merchant(95)}', day, 0, 0, 0, 1, 0, 0, 0, 1, 0 "
+     f"FROM running {OF_THIRD}",
+     f"DELETE FROM running WHERE merchant = '{merchant(95)}'"),
+]
 HERE = os.path.dirname(os.path.abspath(__file__))
 
 
@@ -445,9 +462,35 @@ def a_file_in_slices(program):
         wanted("the file afterwards", book.output("clearing", "--day", DAY).encode(), file)
 
 
+class Beside:
+    """Two control connections and a terminal of a host, for texts before which rows are gone over
+    in slices."""
+
+    def __init__(self, host):
+        self.host, self.one, self.other = host, host.control(), host.control()
+        self.seller = Seller(host)
+        # Each has its place, in this order.
+        for it in (self.one, self.other):
+            wanted("an answer", it.ask("enrol,NEW"), "acqd: 62 BadLine 1")
+
+    def asks(self, asked, text):
+        """The text is what is answered, and before it messages of the terminal are, and a status;
+        so it is once others asked for it and went away."""
+        seen = []
+        while not any(count >= IN_SLICES and early for count, early in seen):
+            if len(seen) == TURNS:
+                raise Wrong(f"answers before {asked}: {seen}")
+            answered, early, answer = ask_beside(
+                self.one, self.other, self.seller, "status", text, asked)
+            wanted("whether status is answered well", b"merchants " in answer, True)
+            seen.append((answered, early is not None))
+        go_away(self.host, self.seller, asked, len(text) // 2)
+        wanted(f"{asked} once others went away", self.one.ask(asked), text)
+
+
 def found_in_slices(program):
     """Terminals and other control connections go on while requests and postings are gone over for a
-    `find`; of more than a hundred requests a host says how many they are, and a file tells of all."""
+    `find`; of more than a hundred requests a host says just that, and a file tells of all."""
     with Book(program, SHOPS) as book:
         # All sales of the day are of one shop.
         end_day(book, SHOPS[:1])
@@ -458,23 +501,12 @@ def found_in_slices(program):
         told = {"sale": SALES, "reply": SALES, "posted": SALES}
         wanted("what a file tells of all sales of a day", lines, told)
         with Host(book, "--together", "8", control=True) as host:
-            one, other, seller = host.control(), host.control(), Seller(host)
-            # Each has its place, in this order.
-            for it in (one, other):
-                wanted("an answer", it.ask("enrol,NEW"), "acqd: 62 BadLine 1")
-            asked, seen = f"find,{merchant(SHOPS[0])},reference,1", []
-            while not any(count >= IN_SLICES and early for count, early in seen):
-                if len(seen) == TURNS:
-                    raise Wrong(f"answers before what is found: {seen}")
-                answered, early, answer = ask_beside(one, other, seller, "status", text, asked)
-                wanted("whether status is answered well", b"merchants " in answer, True)
-                seen.append((answered, early is not None))
-            go_away(host, seller, asked, len(text) // 2)
-            wanted("what is found once others went away", one.ask(asked), text)
-            many = f"{SALES} requests found, too many to tell of: "
-            many += "ask for one by its reference or trace number\n"
+            beside = Beside(host)
+            beside.asks(f"find,{merchant(SHOPS[0])},reference,1", text)
+            many = b"more than 100 requests found, too many to tell of: "
+            many += b"ask for one by its reference or trace number\n"
             asked = f"find,{merchant(SHOPS[0])},card,1111,{DAY}"
-            wanted("all sales of a day over a socket", one.ask(asked), many.encode())
+            wanted("all sales of a day over a socket", beside.one.ask(asked), many)
 
 
 def stated_in_slices(program):
@@ -487,20 +519,52 @@ def stated_in_slices(program):
         texts = {"": book.output("statement", *words).encode(),
                  ",csv": book.output("statement", *words, "--csv").encode()}
         with Host(book, "--together", "8", control=True) as host:
-            one, other, seller = host.control(), host.control(), Seller(host)
-            # Each has its place, in this order.
-            for it in (one, other):
-                wanted("an answer", it.ask("enrol,NEW"), "acqd: 62 BadLine 1")
+            beside = Beside(host)
             for form, text in texts.items():
-                asked, seen = f"statement,{merchant(SHOPS[0])},{DAY}{form}", []
-                while not any(count >= IN_SLICES and early for count, early in seen):
-                    if len(seen) == TURNS:
-                        raise Wrong(f"answers before a statement: {seen}")
-                    answered, early, answer = ask_beside(one, other, seller, "status", text, asked)
-                    wanted("whether status is answered well", b"merchants " in answer, True)
-                    seen.append((answered, early is not None))
-                go_away(host, seller, asked, len(text) // 2)
-                wanted("a statement once others went away", one.ask(asked), text)
+                beside.asks(f"statement,{merchant(SHOPS[0])},{DAY}{form}", text)
+
+
+def reported_in_slices(program):
+    """Terminals and other control connections go on while the postings of a day are compared with
+    its totals for a `report`. A merchant that is enrolled meanwhile has its line; a day that isn't
+    over is refused; and a posting or a total that somebody changed ends the host with 2."""
+    with Book(program, SHOPS) as book:
+        end_day(book)
+        forms = {"": [], ",csv": ["--csv"]}
+        texts = {form: book.output("report", "--day", DAY, *words).encode()
+                 for form, words in forms.items()}
+        with Host(book, "--together", "8", control=True) as host:
+            beside = Beside(host)
+            for form, text in texts.items():
+                beside.asks(f"report,{DAY}{form}", text)
+            today = host.figures()["day"]
+            refused = beside.one.ask(f"report,{today}")
+            wanted("the report of a day that isn't over", refused, "acqd: 60 DayNotOver")
+            enrolled = beside.other.ask(f"enrol,{merchant(95)},978,1,,")
+            wanted("a merchant more", enrolled, "done")
+            more = {form: beside.one.ask(f"report,{DAY}{form}") for form in forms}
+            wanted("stop", beside.other.ask("stop"), "stopping")
+            wanted("the end", host.ends()[0], 0)
+        for form, words in forms.items():
+            now = book.output("report", "--day", DAY, *words).encode()
+            wanted("a report with a merchant more", (more[form], now == texts[form]), (now, False))
+        for change, back in CHANGES:
+            changed(book, change)
+            with Host(book, "--together", "8", control=True) as host:
+                end = host.control()
+                end.end.sendall(f"report,{DAY}\n".encode())
+                status, faults = host.ends()
+                wanted(f"the end after {change}", (status, faults[0]), (3, "acqd: 2 Store"))
+            changed(book, back)
+        wanted("a report once all is put right", book.output("report", "--day", DAY).encode(),
+               more[""])
+
+
+def changed(book, statement):
+    """Another program changes one row of the book."""
+    with closing(sqlite3.connect(book.path)) as rows:
+        wanted(f"rows of {statement}", rows.execute(statement).rowcount, 1)
+        rows.commit()
 
 
 def cut_off_in_a_file(book):
@@ -538,5 +602,5 @@ def go_away(host, seller, asked=f"clearing,{DAY}", enough=20000):
 if __name__ == "__main__":
     sys.exit(main([
         tell_answers, a_socket_that_is_taken, log_to_standard_error, a_day, a_file_in_slices,
-        found_in_slices, stated_in_slices, play_rows,
+        found_in_slices, stated_in_slices, reported_in_slices, play_rows,
     ]))

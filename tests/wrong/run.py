@@ -69,6 +69,7 @@ SCRIPTS = [
     ]),
     ("control found_in_slices", [("text find", "the file beside")]),
     ("control stated_in_slices", [("text statement", "the file beside")]),
+    ("control reported_in_slices", [("text report", "the file beside")]),
     ("control a_day 5", [
         ("reply 4", "replies to terminal"),
         # A day of few terminals may be cleared before its first sale.
