@@ -406,14 +406,17 @@ fn end_waiting_first<B: Book + Drop, C: Clock, F: Sink>(
     }
 }
 
-/// Has the book count the day's messages, which it then recalls, if it may be asked for figures.
-/// All requests are gone over for that, and no terminal waits for it yet. A fault of the store
-/// comes to whoever asks it next.
+/// Has the book count what a status asks for, which is then recalled, if it may be asked for one:
+/// all requests, terminals and ranges are gone over for that, and no terminal waits for it yet. A
+/// fault of the store comes to whoever asks it next.
 fn count_first<B: Book>(book: &mut B, asked: &ListenOptions) {
     if asked.control.is_some() {
         if let Ok(day) = book.day() {
             let _ = book.used_on(day);
         }
+        let _ = book.waiting_count();
+        let _ = book.terminal_count();
+        let _ = book.range_count();
     }
 }
 
@@ -440,9 +443,9 @@ fn serve_over<B: Lenient + Drop, M: Machine<B> + Drop, C: Clock, I: Issuer + Dro
 ) -> Result<(), Fault> {
     let server = machine.serve_at(alloc, asked);
     let opened = machine.open_book(asked.path.as_str());
-    let (mut book, mut issuer, mut server) = all_opened(opened, issuers, server)?;
+    let (book, mut issuer, mut server) = all_opened(opened, issuers, server)?;
+    let mut book = RecallingBook::new(alloc, keys, book);
     count_first(&mut book, asked);
-    let book = RecallingBook::new(alloc, keys, book);
     let (book, ended) = end_waiting_first(alloc, book, asked, clock, faults);
     let ran = match ended {
         Ok(()) => listen_together_on(

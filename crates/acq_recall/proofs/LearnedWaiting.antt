@@ -41,6 +41,7 @@ with_waiting r waiting t is these = record {
   merchants = is.merchants;
   terminals = is.terminals;
   ranges = is.ranges;
+  enrolled_counts = is.enrolled_counts;
   counts = is.counts;
   waiting = these;
 }
@@ -53,6 +54,7 @@ without_waiting r waiting t is those = record {
   merchants = is.merchants;
   terminals = is.terminals;
   ranges = is.ranges;
+  enrolled_counts = is.enrolled_counts;
   counts = is.counts;
   waiting = those;
 }

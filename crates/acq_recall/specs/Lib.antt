@@ -1,6 +1,7 @@
 pub mod Kept
 pub mod Waiting
 pub mod Counts
+pub mod Enrolled
 pub mod Recalled
 pub mod Known
 pub mod Suits

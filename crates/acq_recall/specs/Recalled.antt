@@ -13,6 +13,7 @@ use Rattle.acq_book.specs.Keys.{merchant_eq}
 use Rattle.acq_lists.specs.declared.merchant_terminal.MerchantTerminal.{MerchantTerminal}
 use Rattle.acq_lists.specs.Keys.{terminal_eq}
 use Rattle.acq_recall.specs.Counts.{RecallsCounts}
+use Rattle.acq_recall.specs.Enrolled.{RecallsEnrolled}
 use Rattle.acq_recall.specs.Kept.{SaysOf}
 use Rattle.acq_recall.specs.Waiting.{RecallsWaiting}
 use Rattle.acq_recall.specs.declared.recollection.Recollection.{Recollection}
@@ -37,6 +38,7 @@ pub record RecallsRows (r : Recollection) (limit_and_day : ℕ × ℕ) (enrolled
   pub merchants : SaysOf (IsMerchant enrolled) (get merchant_eq r.merchants.entries)
   pub terminals : SaysOf (IsTerminal installed) (get terminal_eq r.terminals.entries)
   pub ranges : SaysOf (IsRange listed) (get nat_eq r.ranges.entries)
+  pub enrolled_counts : RecallsEnrolled r.enrolled_counts installed listed
   pub counts : RecallsCounts r.counts recorded
   pub waiting : RecallsWaiting r.waiting recorded
 

@@ -96,11 +96,21 @@ impl<B: Lenient + Drop> Book for RecallingBook<B> {
     }
 
     fn terminal_count(&mut self) -> Result<u64, BookFault> {
-        self.book.terminal_count()
+        if let Some(count) = self.recalled.enrolled_counts.terminals {
+            return Ok(count);
+        }
+        let count = self.book.terminal_count()?;
+        self.recalled.enrolled_counts.terminals = Some(count);
+        Ok(count)
     }
 
     fn range_count(&mut self) -> Result<u64, BookFault> {
-        self.book.range_count()
+        if let Some(count) = self.recalled.enrolled_counts.ranges {
+            return Ok(count);
+        }
+        let count = self.book.range_count()?;
+        self.recalled.enrolled_counts.ranges = Some(count);
+        Ok(count)
     }
 
     fn used_on(&mut self, day: Day) -> Result<u64, BookFault> {

@@ -1,6 +1,6 @@
 //! What is recalled of a book's tables.
 
-ghost use Rattle.std.specs.Prelude.{◌≡◌, ◌++◌, ◌∷◌, [], IfSome};
+ghost use Rattle.std.specs.Prelude.{◌≡◌, ◌++◌, ◌∷◌, [], IfSome, List};
 ghost use Rattle.acq_core.specs.declared.request.Request.{Request};
 ghost use Rattle.acq_core.specs.Tables.{Tables, after, with_changed};
 ghost use Rattle.acq_book.specs.Fits.{Fits};
@@ -11,6 +11,7 @@ mod looking;
 
 use crate::bounded_map::BoundedMap;
 use crate::counts::Counts;
+use crate::enrolled_counts::EnrolledCounts;
 use crate::waiting::Waiting;
 use acq_core::{Change, Limit, Merchant, MerchantId, Request, RequestKey, Status};
 use acq_lists::MerchantTerminal;
@@ -27,6 +28,7 @@ pub(crate) struct Recollection {
     pub(crate) terminals: BoundedMap<MerchantTerminal, ()>,
     /// By the number of a prefix that a range holds.
     pub(crate) ranges: BoundedMap<u32, Range>,
+    pub(crate) enrolled_counts: EnrolledCounts,
     pub(crate) counts: Counts,
     pub(crate) waiting: Waiting,
 }
@@ -41,6 +43,7 @@ impl Recollection {
             merchants: BoundedMap::new(alloc, keys),
             terminals: BoundedMap::new(alloc, keys),
             ranges: BoundedMap::new(alloc, keys),
+            enrolled_counts: EnrolledCounts::nothing(),
             counts: Counts::nothing(alloc, keys),
             waiting: Waiting::nothing(alloc),
         }
@@ -54,6 +57,7 @@ impl Recollection {
         self.merchants.clear();
         self.terminals.clear();
         self.ranges.clear();
+        self.enrolled_counts = EnrolledCounts::nothing();
         self.counts.forget();
         self.waiting.forget();
     }
@@ -66,9 +70,9 @@ impl Recollection {
         self.make_room();
         match change {
             Change::AddMerchant(_) => {}
-            Change::AddTerminal(_) => {}
-            Change::AddRange(_) => self.ranges.clear(),
-            Change::DropRange { .. } => self.ranges.clear(),
+            Change::AddTerminal(_) => self.enrolled_counts.terminals = None,
+            Change::AddRange(_) => self.forget_ranges(),
+            Change::DropRange { .. } => self.forget_ranges(),
             Change::SetDay(day) => self.begin_day(*day),
             Change::AddRequest(request) => self.add(alloc, request),
             Change::Answered { key, status, .. } => self.restate(key, *status),
@@ -93,6 +97,15 @@ impl Recollection {
         self.terminals.make_room();
         self.ranges.make_room();
         self.counts.make_room();
+    }
+
+    /// Other ranges are there than before.
+    fn forget_ranges(&mut self)
+        ensures { (t : Tables) (listed : List Range) → Recalls self.old t
+            → Recalls self.new (record t { ranges = listed }) }
+    {
+        self.ranges.clear();
+        self.enrolled_counts.ranges = None;
     }
 
     /// Another business day begins.

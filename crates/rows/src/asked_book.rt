@@ -128,19 +128,19 @@ impl Book for AskedBook {
         self.found(wanted).ok_or(BookFault::Memory)
     }
 
-    /// It is asked behind each step.
     fn terminal_count(&mut self) -> Result<u64, BookFault> {
-        self.note("|");
+        self.note("terminals");
         Ok(0)
     }
 
-    /// Behind it changes and groups fail, or don't any more.
     fn range_count(&mut self) -> Result<u64, BookFault> {
-        self.fails = !self.fails;
+        self.note("ranges");
         Ok(1)
     }
 
+    /// It is asked behind each step.
     fn used_on(&mut self, _day: Day) -> Result<u64, BookFault> {
+        self.note("|");
         Ok(0)
     }
 
@@ -154,11 +154,13 @@ impl Book for AskedBook {
         Ok(0)
     }
 
+    /// Behind it changes and groups fail, or don't any more.
     fn last_reconciliation(
         &mut self,
         _merchant: MerchantId,
         _day: Day,
     ) -> Result<Option<Reconciliation>, BookFault> {
+        self.fails = !self.fails;
         Ok(None)
     }
 

@@ -4,7 +4,7 @@ use crate::asked_book::AskedBook;
 use acq_book::Book;
 use acq_core::{
     Amount, Change, MerchantId, MessageText, Reference, Request, RequestKey, Service, Status,
-    TerminalId, Trace, Transmission, Wanted,
+    Terminal, TerminalId, Trace, Transmission, Wanted,
 };
 use acq_recall::RecallingBook;
 use card_no::{IssuerId, Prefix, Range};
@@ -14,9 +14,9 @@ use std::alloc::Global;
 use std::hash::RandomState;
 
 /// Puts what a book is asked for at each of these steps, which follow one another, and a bar behind
-/// each: a `sale`, the `answer` to the last one, one of `another` merchant, a `range` that is
-/// added, a `cutover`, a `status`, `group`, `keep` and `give-up`. Behind `fault` changes and groups
-/// fail, until it is said again.
+/// each: a `sale`, the `answer` to the last one, one of `another` merchant, a `range` or a `terminal`
+/// that is added, a `cutover`, a `status`, `group`, `keep` and `give-up`. Behind `fault` changes and
+/// groups fail, until it is said again.
 pub fn put_asked(alloc: Global, keys: RandomState, text: &[u8], answer: &mut String) -> Option<()> {
     let mut asking = Asking {
         alloc,
@@ -27,7 +27,7 @@ pub fn put_asked(alloc: Global, keys: RandomState, text: &[u8], answer: &mut Str
     };
     for step in text.split(|byte| *byte == b' ') {
         asking.take(step)?;
-        let _ = asking.book.terminal_count();
+        let _ = asking.book.used_on(asking.day);
     }
     answer.push_str(asking.book.into_book().asked.as_str()).ok()
 }
@@ -51,14 +51,18 @@ impl Asking {
             b"another" => self.sell(b"MERCHANT0000002"),
             b"answer" => self.answer(),
             b"range" => self.add_range(),
+            b"terminal" => self.add_terminal(),
             b"cutover" => self.cut_over(),
             b"status" => {
                 let _ = self.book.waiting_count();
                 let _ = self.book.pending(self.day);
+                let _ = self.book.terminal_count();
+                let _ = self.book.range_count();
                 Some(())
             }
             b"fault" => {
-                let _ = self.book.range_count();
+                let merchant = MerchantId::read(b"MERCHANT0000001")?;
+                let _ = self.book.last_reconciliation(merchant, self.day);
                 Some(())
             }
             b"group" => {
@@ -85,6 +89,14 @@ impl Asking {
             high: 59_999_999,
             issuer,
             hold_days: 1,
+        }))
+    }
+
+    /// A terminal more.
+    fn add_terminal(&mut self) -> Option<()> {
+        self.change(Change::AddTerminal(Terminal {
+            merchant: MerchantId::read(b"MERCHANT0000001")?,
+            id: TerminalId::read(b"TERM0002")?,
         }))
     }
 

@@ -6,6 +6,7 @@ returns c t new is = record {
   merchants = is.merchants;
   terminals = is.terminals;
   ranges = is.ranges;
+  enrolled_counts = is.enrolled_counts;
   counts = c.add.ensures t.requests is.counts;
   waiting = c.add-2.ensures t.requests new is.waiting;
 }

@@ -6,6 +6,7 @@ returns c t is = record {
   merchants = is.merchants;
   terminals = is.terminals;
   ranges = is.ranges;
+  enrolled_counts = is.enrolled_counts;
   counts = c.forget_days.ensures t.requests is.counts;
   waiting = is.waiting;
 }

@@ -1,4 +1,5 @@
 use Rattle.std.proofs.Common.{subst, sym}
+use Rattle.card_no.specs.Ranges.{with_range}
 use Rattle.acq_core.specs.Tables.{after, answered_row, followed_row, with_changed}
 use Rattle.acq_book.specs.Fits.{Fits}
 use Rattle.acq_recall.specs.Recalled.{Recalls}
@@ -14,9 +15,16 @@ returns-in-AddMerchant c t fits was =
       merchants = merchants_stay t.merchants c.in-AddMerchant.field-0 _ is.merchants;
       terminals = is.terminals;
       ranges = is.ranges;
+      enrolled_counts = is.enrolled_counts;
       counts = is.counts;
       waiting = is.waiting;
     })
+
+pub returns-in-AddRange : goal.returns-in-AddRange
+returns-in-AddRange c t fits was =
+    subst (λ change. Recalls c.forget_ranges.new.self (after t change)) (sym c.in-AddRange.is)
+    (c.forget_ranges.ensures t (with_range t.ranges c.in-AddRange.field-0)
+    (c.make_room.ensures t was))
 
 pub returns-in-Answered : goal.returns-in-Answered
 returns-in-Answered c t fits was =

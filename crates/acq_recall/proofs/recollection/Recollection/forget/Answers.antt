@@ -7,6 +7,7 @@ returns c t = record {
   merchants = nothing_said _ _ c.clear.ensures;
   terminals = nothing_said _ _ c.clear-2.ensures;
   ranges = nothing_said _ _ c.clear-3.ensures;
+  enrolled_counts = c.nothing-self.ensures t.terminals t.ranges;
   counts = c.forget.ensures t.requests;
   waiting = c.forget-2.ensures t.requests;
 }

@@ -6,6 +6,7 @@ returns-in-Some-clause-keeps c t is = record {
   merchants = is.merchants;
   terminals = is.terminals;
   ranges = is.ranges;
+  enrolled_counts = is.enrolled_counts;
   counts = c.note_admitted.ensures.keeps t.requests is.counts;
   waiting = is.waiting;
 }

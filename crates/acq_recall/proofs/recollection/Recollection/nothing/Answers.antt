@@ -7,6 +7,7 @@ returns c t = record {
   merchants = nothing_said _ _ c.new.ensures;
   terminals = nothing_said _ _ c.new-2.ensures;
   ranges = nothing_said _ _ c.new-3.ensures;
-  counts = c.nothing.ensures t.requests;
-  waiting = c.nothing-2.ensures t.requests;
+  enrolled_counts = c.nothing.ensures t.terminals t.ranges;
+  counts = c.nothing-2.ensures t.requests;
+  waiting = c.nothing-3.ensures t.requests;
 }

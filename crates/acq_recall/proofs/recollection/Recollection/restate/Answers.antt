@@ -7,6 +7,7 @@ returns c t change restates is = record {
   merchants = is.merchants;
   terminals = is.terminals;
   ranges = is.ranges;
+  enrolled_counts = is.enrolled_counts;
   counts = counts_restated c.args.self.now.counts t.requests c.args.key.now c.args.status change
       restates is.counts;
   waiting = c.restate.ensures t.requests change restates is.waiting;
