@@ -1,12 +1,12 @@
 #!/bin/sh
 # texts.sh [POSTINGS [MERCHANTS [LINE ..]]]: has a terminal send echoes to `acqd listen --together
 # 64`, each behind the reply to the last, and prints how long the replies took: in the middle, at
-# most for 99 of 100, and at most; undisturbed, and while a control connection asks for texts of a
-# day of 100,000 postings, or as many as its first argument says, of 100 merchants, or as many as
-# its second one says. Each line is asked five times, once of them not counted; of the other four
-# the worst is told. Each text has to be that of the command over a copy of the book, byte for byte.
-# With LINEs only those that begin so are asked. ACQD may name another program than the built one.
-# It needs python3.
+# most for 99 of 100, and at most, and how many took more than 5 ms: undisturbed, and while a
+# control connection asks for texts of a day of 100,000 postings, or as many as its first argument
+# says, of 100 merchants, or as many as its second one says. Each line is asked five times, the
+# first of which doesn't count. Each text has to be that of the command over a copy of the book,
+# byte for byte. With LINEs only those that begin so are asked. ACQD may name another program than
+# the built one. It needs python3.
 set -eu
 unset CDPATH
 top=$(cd "$(dirname "$0")/.." && pwd)
@@ -26,7 +26,7 @@ from terminal import (
 )
 
 PROGRAM, POSTINGS, COUNT = os.path.abspath(sys.argv[1]), int(sys.argv[2]), int(sys.argv[3])
-ASKED, ALONE, TURNS, FIRST = sys.argv[4:] or [""], 5000, 4, merchant(0)
+ASKED, ALONE, TURNS, LONG, FIRST = sys.argv[4:] or [""], 50000, 4, 5, merchant(0)
 # A line, and the command that writes the same text over a file; a status has none.
 TEXTS = [
     (f"clearing,{DAY}", ["clearing", "--day", DAY]),
@@ -35,8 +35,8 @@ TEXTS = [
     (f"statement,{FIRST},{DAY}", ["statement", "--merchant", FIRST, "--day", DAY]),
     (f"statement,{FIRST},{DAY},csv", ["statement", "--merchant", FIRST, "--day", DAY, "--csv"]),
     (f"find,{FIRST},reference,1", ["find", "--merchant", FIRST, "--reference", "1"]),
-    (f"find,{FIRST},terminal,TERM0001,1",
-     ["find", "--merchant", FIRST, "--terminal", "TERM0001", "--trace", "1"]),
+    (f"find,{FIRST},terminal,TERM0001,000001",
+     ["find", "--merchant", FIRST, "--terminal", "TERM0001", "--trace", "000001"]),
     (f"holds,{FIRST},{MOMENT}", ["holds", "--merchant", FIRST, "--at", str(MOMENT)]),
     ("list,merchants", ["list", "merchants"]),
     ("list,terminals", ["list", "terminals"]),
@@ -81,7 +81,8 @@ def told(name, all_took, seconds, text):
     within = took[len(took) * 99 // 100]
     print(f"{name}: {len(text):,} bytes in {seconds:.3f} s; {len(took):,} echoes, a reply took "
           f"{took[len(took) // 2]:.2f} ms in the middle, {within:.2f} ms at most for 99 of 100, "
-          f"{took[-1]:.2f} ms at most", flush=True)
+          f"{took[-1]:.2f} ms at most, {sum(it > LONG for it in took)} of them more than {LONG} ms",
+          flush=True)
 
 
 def ask(control, terminal, line, want):
