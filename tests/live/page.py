@@ -202,6 +202,7 @@ def alarms(program):
 def heads(program):
     """Which head asks what."""
     with Book(program) as book, host_over(book) as host, Page(host) as page:
+        page.is_there()
         _, fields, body = page.get()
         for name, value in (("Connection", "close"), ("Content-Security-Policy", POLICY),
                             ("Content-Type", "text/html; charset=utf-8"),
